@@ -2,6 +2,7 @@
 use Rattle.std.proofs.Common.{◌≡◌, ◌≢◌, ℕ, zero, suc, ◌+◌, ◌<◌, ◌≤◌, List, [], ◌∷◌, ◌++◌, length, map, drop, get_or, refl, sym, ap, ◌∙◌, arith, length-append}
 use Rattle.std.specs.Prelude.{Some, slice_get}
 use Rattle.std.specs.List.{range_with_len}
+use Rattle.std.proofs.lemmas.Option.{get_or_from_slice_get}
 use Rattle.pmem_trait.specs.declared.call.Call.{Call}
 use Rattle.pmem_trait.specs.declared.call.Call.TheVariants.{Read}
 use Rattle.dude_core.specs.CallFits.{GoesOn}
@@ -27,7 +28,7 @@ module _ (list made : List Call) (call : Call) where
   other_call x is other left e = other (is ∙ (ap (λ (l : List Call). get_or l (length made) x) e ∙ at_end made left call x))
 
 -- a list whose first elements are those made, and then the call
-pub goes_on : (list made : List Call) (call : Call) → length made < length list → ((k : ℕ) (d : Call) → k < length made → get_or list k d ≡ get_or made k d)
+goes_on : (list made : List Call) (call : Call) → length made < length list → ((k : ℕ) (d : Call) → k < length made → get_or list k d ≡ get_or made k d)
     → ((d : Call) → get_or list (length made) d ≡ call) → GoesOn list made call (drop (suc (length made)) list)
 goes_on [] [] call long same here = absurd (omega arith)
 goes_on (x ∷ xs) [] call long same here = ap (λ (c : Call). c ∷ xs) (here x)
@@ -37,16 +38,32 @@ goes_on (x ∷ xs) (y ∷ ys) call long same here =
     let rest : GoesOn xs ys call (drop (suc (length ys)) xs) = goes_on xs ys call (omega arith) (λ k d lt. same (suc k) d (omega arith)) here in
     ap (λ (c : Call). c ∷ xs) one ∙ ap (λ (cs : List Call). y ∷ cs) rest
 
-pub left_none : (list : List Call) (n : ℕ) → length list ≤ n → drop n list ≡ []
+left_none : (list : List Call) (n : ℕ) → length list ≤ n → drop n list ≡ []
 left_none [] zero h = refl
 left_none [] (suc n) h = refl
 left_none (x ∷ xs) zero h = absurd (omega arith)
 left_none (x ∷ xs) (suc n) h = left_none xs n (omega arith)
 
-pub left_some : (list : List Call) (n : ℕ) (d : Call) → n < length list → drop n list ≡ get_or list n d ∷ drop (suc n) list
+left_some : (list : List Call) (n : ℕ) (d : Call) → n < length list → drop n list ≡ get_or list n d ∷ drop (suc n) list
 left_some [] n d h = absurd (omega arith)
 left_some (x ∷ xs) zero d h = refl
 left_some (x ∷ xs) (suc n) d h = left_some xs n d (omega arith)
+
+-- a list whose first elements are those made, and then the call: it is all of the list, or some are left
+module _ (list made : List Call) (call got : Call) (long : length made < length list) (same : (k : ℕ) (d : Call) → k < length made → get_or list k d ≡ get_or made k d)
+    (at : slice_get list (length made) ≡ Some got) (is : got ≡ call) where
+  begins : GoesOn list made call (drop (suc (length made)) list)
+  begins = goes_on list made call long same (λ d. get_or_from_slice_get list (length made) got d at ∙ is)
+
+  pub is_whole : length list ≤ suc (length made) → GoesOn list made call []
+  is_whole all = begins ∙ ap (λ (cs : List Call). made ++ call ∷ cs) (left_none list (suc (length made)) all)
+
+  pub is_front : suc (length made) < length list → (next : Call) × (later : List Call) × GoesOn list made call (next ∷ later)
+  is_front more = (
+    get_or list (suc (length made)) call,
+    drop (suc (suc (length made))) list,
+    begins ∙ ap (λ (cs : List Call). made ++ call ∷ cs) (left_some list (suc (length made)) call more),
+  )
 
 -- ---- the reads of words in a row
 pub reads_at : (start n k : ℕ) → k < n → slice_get (map Read (range_with_len start n)) k ≡ Some (Read (start + k))

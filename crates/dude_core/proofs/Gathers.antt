@@ -106,11 +106,14 @@ module _ (z : Setup) (c : State) (a : StoreData) (k : MachineKept z (machine_ove
       record { low = omega arith; high = omega arith }
 
   -- a record that is read at the place of a box is the record in it, with its number
-  pub box_record_is : (s : State) (b t j : ℕ) (r : RedoRecord) → r ≡ get_or s.records b no_record → s ≡ c → b ≡ box_of z t j → r ≡ boxed z c.records t j
+  box_record_is : (s : State) (b t j : ℕ) (r : RedoRecord) → r ≡ get_or s.records b no_record → s ≡ c → b ≡ box_of z t j → r ≡ boxed z c.records t j
   box_record_is s b t j r is same place = is ∙ (ap (λ (x : State). get_or x.records b no_record) same ∙ ap (λ (n : ℕ). get_or c.records n no_record) place)
 
-  pub box_number_is : (t j : ℕ) (r : RedoRecord) → t < z.threads → IsLeastOf z c t z.boxes (Some j) → r ≡ boxed z c.records t j → r.number ≡ number_in z c t j
+  box_number_is : (t j : ℕ) (r : RedoRecord) → t < z.threads → IsLeastOf z c t z.boxes (Some j) → r ≡ boxed z c.records t j → r.number ≡ number_in z c t j
   box_number_is t j r lt least is = ap (λ (x : RedoRecord). x.number) (is ∙ full_record z g c layers t j lt least.0 least.1)
+
+  pub box_read : (s : State) (b t j : ℕ) (r : RedoRecord) → t < z.threads → IsLeastOf z c t z.boxes (Some j) → r ≡ get_or s.records b no_record → s ≡ c → b ≡ box_of z t j → (r ≡ boxed z c.records t j) × (r.number ≡ number_in z c t j)
+  box_read s b t j r lt least is same place = let so = box_record_is s b t j r is same place in (so, box_number_is t j r lt least so)
 
   -- ---- a box by its number among all boxes
   module _ (i : ℕ) (inside : i < length c.boxes) where

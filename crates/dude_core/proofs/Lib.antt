@@ -19,5 +19,6 @@ pub mod NextCalls
 pub mod Gathers
 pub mod MadeCalls
 pub mod MadeEvents
+pub mod Memory
 pub mod EventLists
 pub mod DroppedReads

@@ -34,6 +34,14 @@ use Rattle.dude_core.specs.StateSteps.{IsOffIn}
 use Rattle.dude_core.specs.Chains.{writes_in}
 use Rattle.dude_core.proofs.DataEffects.{told_law, effects_law, few}
 
+-- after a want of memory this holds of the refusal too
+err_as : (P : Type 0) (r : Result (Unit {0}) AllocError) → OnErr r P → OnErr (refused_as r) P
+err_as P (Ok x) err = tt
+err_as P (Err x) err = err
+
+pub refused_err : (P : Type 0) (r : Result (Unit {0}) AllocError) (s : Result (Unit {0}) CoreRefusal) → s ≡ refused_as r → OnErr r P → OnErr s P
+refused_err P r s is err = subst (λ (t : Result (Unit {0}) CoreRefusal). OnErr t P) (sym is) (err_as P r err)
+
 -- ---- what the call makes of the data
 pub made_data : (e : Effect) (call : Call) (ends : Bool) (a : StoreData) (left : List Call) → Tells ends (left ≡ []) → made_by e call ends a ≡ data_after e call left a
 made_data e call true a [] h = refl
@@ -54,20 +62,20 @@ module _ (z : Setup) (c : State) (a : StoreData) (call : Call) where
   next_not_none e ends n none = none n.back n.left n.goes
 
   -- a call that goes on with a call of the back is made, or there is no memory
-  pub refused_ok : (r : Result (Unit {0}) AllocError) (e : Effect) (ends : Bool) (d : StoreData) → IsNext z c a call e ends → OnOk r (d ≡ made_by e call ends a) → OnOk (refused_as r) (HasMade z c a call d)
-  refused_ok (Ok x) e ends d n ok = made_next e ends d n ok
-  refused_ok (Err x) e ends d n ok = tt
+  made_ok : (r : Result (Unit {0}) AllocError) (e : Effect) (ends : Bool) (d : StoreData) → IsNext z c a call e ends → OnOk r (d ≡ made_by e call ends a) → OnOk (refused_as r) (HasMade z c a call d)
+  made_ok (Ok x) e ends d n ok = made_next e ends d n ok
+  made_ok (Err x) e ends d n ok = tt
 
-  pub refused_err : (P : Type 0) (r : Result (Unit {0}) AllocError) → OnErr r P → OnErr (refused_as r) P
-  refused_err P (Ok x) err = tt
-  refused_err P (Err x) err = err
+  not_off : (r : Result (Unit {0}) AllocError) → IsErrOf (refused_as r) Off → ⊥
+  not_off (Ok x) is = absurd (cc)
+  not_off (Err x) is = absurd (cc)
 
-  refused_not : (r : Result (Unit {0}) AllocError) → IsErrOf (refused_as r) Off → ⊥
-  refused_not (Ok x) is = absurd (cc)
-  refused_not (Err x) is = absurd (cc)
+  module _ (r : Result (Unit {0}) AllocError) (s : Result (Unit {0}) CoreRefusal) (is : s ≡ refused_as r) where
+    pub refused_ok : (e : Effect) (ends : Bool) (d : StoreData) → IsNext z c a call e ends → OnOk r (d ≡ made_by e call ends a) → OnOk s (HasMade z c a call d)
+    refused_ok e ends d n ok = subst (λ (t : Result (Unit {0}) CoreRefusal). OnOk t (HasMade z c a call d)) (sym is) (made_ok r e ends d n ok)
 
-  pub refused_off : (r : Result (Unit {0}) AllocError) (e : Effect) (ends : Bool) → IsNext z c a call e ends → IsErrOf (refused_as r) Off ↔ MakesNone z c a call
-  refused_off r e ends n = ((λ is. absurd (refused_not r is)), (λ none. absurd (next_not_none e ends n none)))
+    pub refused_off : (e : Effect) (ends : Bool) → IsNext z c a call e ends → IsErrOf s Off ↔ MakesNone z c a call
+    refused_off e ends n = ((λ off. absurd (not_off r (sym is ∙ off))), (λ none. absurd (next_not_none e ends n none)))
 
   pub next_reads : (p : ℕ) (ends : Bool) → ReadsOn a call p ends → IsNext z c a call (reads_page p) ends
   next_reads p ends r = record { back = reading p; left = r.front.left; goes = record { may = r.inside; whole = r.front.goes }; effect_is = refl; ends_is = r.front.ends_is }

@@ -1,5 +1,5 @@
 -- A step on words, with what it makes of the store as data.
-use Rattle.std.proofs.Common.{◌≡◌, ℕ, Result, Ok, Err, OnOk, ◌↔◌, refl, sym, ap, ◌∙◌}
+use Rattle.std.proofs.Common.{◌≡◌, ℕ, Result, Ok, Err, OnOk, ◌↔◌, refl, sym, ap, subst, ◌∙◌}
 use mathlib.Core.Option.{some-injective}
 use Rattle.core_events.specs.Setups.{Setup}
 use Rattle.core_events.specs.Views.{View}
@@ -18,6 +18,8 @@ use Rattle.dude_core.specs.Stands.{store_of, machine_over}
 use Rattle.dude_core.specs.StateSteps.{MayMake, IsOffAt, IsOffIn}
 use Rattle.dude_core.specs.Views.{OfView}
 use Rattle.dude_core.specs.declared.dropped.Dropped.{Dropped}
+use Rattle.dude_core.specs.declared.event.Event.{Event as Asked}
+use Rattle.dude_core.specs.Steps.{step_of}
 use Rattle.dude_core.specs.DroppedReads.{dropped_from, Drops}
 
 -- the kept machine's words are kept
@@ -68,3 +70,11 @@ module _ (z : Setup) (c : State) (a : StoreData) where
     (λ p n l. off.0 p _ (l.0, l.1, l.2, refl)),
     (λ none. off.1 (λ d h. none _ (h.0, h.1, h.2, refl))),
   )
+
+-- ---- an event that is asked for, where it is this one
+module _ (z : Setup) (c : State) (a : StoreData) (who : ℕ) where
+  pub asked_ok : {e f : Asked} (r : Result (Unit {0}) CoreRefusal) (n : Machine) → e ≡ f → OnOk r (MachineLeads z (machine_over z c a) (step_of a.read who f) n) → OnOk r (MachineLeads z (machine_over z c a) (step_of a.read who e) n)
+  asked_ok r n is ok = subst (λ (g : Asked). OnOk r (MachineLeads z (machine_over z c a) (step_of a.read who g) n)) (sym is) ok
+
+  pub asked_off : {P : Type 0} {e f : Asked} → e ≡ f → P ↔ IsOffIn z (machine_over z c a) (step_of a.read who f) → P ↔ IsOffIn z (machine_over z c a) (step_of a.read who e)
+  asked_off {P} is off = subst (λ (g : Asked). P ↔ IsOffIn z (machine_over z c a) (step_of a.read who g)) (sym is) off

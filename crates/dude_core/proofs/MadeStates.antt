@@ -49,7 +49,7 @@ page_plain (Unpin p) = record { records = λ z c v. refl; persisted = λ z c. re
 page_plain (Touch p) = record { records = λ z c v. refl; persisted = λ z c. refl }
 page_plain (LoadTouch p) = record { records = λ z c v. refl; persisted = λ z c. refl }
 page_plain (Evict p) = record { records = λ z c v. refl; persisted = λ z c. refl }
-page_plain (Fill p f i x) = record { records = λ z c v. refl; persisted = λ z c. refl }
+page_plain (Fill w) = record { records = λ z c v. refl; persisted = λ z c. refl }
 page_plain (Show p f) = record { records = λ z c v. refl; persisted = λ z c. refl }
 
 pub ready_of : (z : Setup) (c : State) (who : ℕ) (e : Event) → Kept z c → (v : View) × IsAllowed z c who e v → IsReady z c who e

@@ -1,9 +1,10 @@
 -- Lists that are walked from the front.
 use Rattle.std.proofs.Common.{◌≡◌, ◌⊎◌, ℕ, zero, suc, ◌+◌, ◌<◌, ◌≤◌, Bool, true, false, List, [], ◌∷◌, ◌++◌, length, take, drop, get_or, set, map, All, inl, inr, ⊎_elim, refl, sym, ap, subst, ◌∙◌, arith, eq-eqb, ne_eqb, take-append-drop}
-use Rattle.std.specs.Prelude.{AllPairs}
+use Rattle.std.specs.Prelude.{AllPairs, Some, slice_get}
 use Rattle.std.specs.List.{Contains}
 use Rattle.std.proofs.lemmas.List.{take_more, take_all}
 use Rattle.std.proofs.lemmas.List.Elements.{All-contains}
+use Rattle.std.proofs.lemmas.Option.{get_or_from_slice_get}
 use mathlib.Core.Logic.{dite}
 use native.Mathlib.Decide.{ℕ_discrete}
 use Rattle.dude_base.specs.declared.write.Write.{Write}
@@ -41,9 +42,9 @@ in_behind x [] ys h = h
 in_behind x (z ∷ zs) ys h = inr (in_behind x zs ys h)
 
 -- what the first calls and the next one told
-module _ (cs : List Call) (i : ℕ) (c : Call) (lt : i < length cs) (is : c ≡ get_or cs i c) where
+module _ (cs : List Call) (i : ℕ) (c : Call) (lt : i < length cs) (at : slice_get cs i ≡ Some c) where
   next_told : tells (take (i + 1) cs) ≡ tells (take i cs) ++ tells (c ∷ [])
-  next_told = ap tells (take_more cs i c lt) ∙ (tells-append (take i cs) (get_or cs i c ∷ []) ∙ ap (λ (d : Call). tells (take i cs) ++ tells (d ∷ [])) (sym is))
+  next_told = ap tells (take_more cs i c lt) ∙ (tells-append (take i cs) (get_or cs i c ∷ []) ∙ ap (λ (d : Call). tells (take i cs) ++ tells (d ∷ [])) (get_or_from_slice_get cs i c c at))
 
   pub not_told : (n : ℕ) → (IsIn n (tells (take i cs)) → ⊥) → (IsIn n (tells (c ∷ [])) → ⊥) → IsIn n (tells (take (i + 1) cs)) → ⊥
   not_told n before now h = ⊎_elim before now (in_append n (tells (take i cs)) (tells (c ∷ [])) (subst (IsIn n) next_told h))
@@ -55,8 +56,8 @@ all_told : (cs : List Call) (i x : ℕ) → IsIn x (tells (take i cs)) → IsIn 
 all_told cs i x h = subst (IsIn x) (sym (tells-append (take i cs) (drop i cs)) ∙ ap tells (take-append-drop i cs)) (in_front x (tells (take i cs)) (tells (drop i cs)) h)
 
 -- a call among them told it
-pub told_at : (cs : List Call) (i : ℕ) (c : Call) → i < length cs → c ≡ get_or cs i c → (x : ℕ) → IsIn x (tells (c ∷ [])) → IsIn x (tells cs)
-told_at cs i c lt is x h = all_told cs (i + 1) x (subst (IsIn x) (sym (next_told cs i c lt is)) (in_behind x (tells (take i cs)) (tells (c ∷ [])) h))
+pub told_at : (cs : List Call) (i : ℕ) (c : Call) → i < length cs → slice_get cs i ≡ Some c → (x : ℕ) → IsIn x (tells (c ∷ [])) → IsIn x (tells cs)
+told_at cs i c lt at x h = all_told cs (i + 1) x (subst (IsIn x) (sym (next_told cs i c lt at)) (in_behind x (tells (take i cs)) (tells (c ∷ [])) h))
 
 -- ---- a number stands in a list
 pub tell_or : (P Q : Type 0) (b : Bool) → (P → ⊥) → Tells b Q → Tells b (P ⊎ Q)
@@ -100,5 +101,5 @@ pub from_or : (number first : ℕ) (told : List ℕ) (b : Bool) → (number ≤ 
 from_or number first told true not h = (h.0, inr h.1, h.2)
 from_or number first told false not h = λ t. ⊎_elim (λ (e : t.0 ≡ first). not (let le = t.2 in omega arith)) (λ i. h (t.0, i, t.2)) t.1
 
-pub told_from_at : (cs : List Call) (i : ℕ) (c : Call) → i < length cs → c ≡ get_or cs i c → (n : ℕ) → ToldFrom n (tells (c ∷ [])) → ToldFrom n (tells cs)
-told_from_at cs i c lt is n h = (h.0, told_at cs i c lt is h.0 h.1, h.2)
+pub told_from_at : (cs : List Call) (i : ℕ) (c : Call) → i < length cs → slice_get cs i ≡ Some c → (n : ℕ) → ToldFrom n (tells (c ∷ [])) → ToldFrom n (tells cs)
+told_from_at cs i c lt at n h = (h.0, told_at cs i c lt at h.0 h.1, h.2)

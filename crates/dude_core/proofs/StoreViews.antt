@@ -9,7 +9,7 @@ use Rattle.dude_base.specs.Writes.{overwritten}
 use Rattle.pmem_trait.specs.declared.call.Call.{Call}
 use Rattle.redo_record.specs.Waiting.{Waiting}
 use Rattle.dude_core.specs.StoreData.{RingData, StoreData, no_ring}
-use Rattle.dude_core.specs.Effects.{called, added, ring_released, left_of, appends, replays}
+use Rattle.dude_core.specs.Effects.{called, rested, added, ring_released, left_of, appends, replays}
 
 -- the data that these fields stand for
 abbrev pub data_of : Sizes → List RingData → List Waiting → List ℕ → ℕ → ℕ → List Call → ℕ → List ℕ → List (ℕ × ℕ) → StoreData
@@ -26,9 +26,11 @@ data_of s rings waiting home reproduced released made since marks read = record 
   read = read;
 }
 
--- a slice that is written back whole
-pub written_back : {X : Type 0} (n : ℕ) (new old : List X) → length new ≡ n → take n (new ++ drop (length new) old) ≡ new
-written_back n new old count = take-append-le n new (drop (length new) old) (omega arith) ∙ take_all n new (omega arith)
+-- a list that is lent as a slice, and written back whole, is what became of the slice
+pub written_back : {X : Type 0} (n : ℕ) (lent new old made : List X) → lent ≡ old → length lent ≡ n → new ≡ made → length made ≡ length old → take n (new ++ drop (length new) old) ≡ made
+written_back n lent new old made value count is same =
+    let long : length new ≡ n = (let of_new = ap length is in let of_old = ap length value in omega arith) in
+    take-append-le n new (drop (length new) old) (omega arith) ∙ (take_all n new (omega arith) ∙ is)
 
 module _ (made : List Call) (since : ℕ) (call : Call) where
   whole_with : take (length (made ++ call ∷ [])) (made ++ call ∷ []) ≡ take since made ++ (drop since made ++ call ∷ [])
@@ -38,6 +40,11 @@ module _ (made : List Call) (since : ℕ) (call : Call) where
 
   none_with : drop (length (made ++ call ∷ [])) (made ++ call ∷ []) ≡ []
   none_with = drop_all (length (made ++ call ∷ [])) (made ++ call ∷ []) (omega arith)
+
+  -- the call was made, and all calls have ended
+  ended_is : (s : Sizes) (rings : List RingData) (waiting : List Waiting) (home : List ℕ) (reproduced released : ℕ) (marks : List ℕ) (read : List (ℕ × ℕ))
+      → data_of s rings waiting home reproduced released (made ++ call ∷ []) (length (made ++ call ∷ [])) marks read ≡ rested (called call (data_of s rings waiting home reproduced released made since marks read))
+  ended_is s rings waiting home reproduced released marks read = λ k. record (rested (called call (data_of s rings waiting home reproduced released made since marks read))) { ended = whole_with k; calls = none_with k }
 
   module _ (s : Sizes) (rings : List RingData) (waiting : List Waiting) (home : List ℕ) (reproduced released : ℕ) (marks : List ℕ) (read : List (ℕ × ℕ)) where
     abbrev old : StoreData
@@ -52,18 +59,7 @@ module _ (made : List Call) (since : ℕ) (call : Call) where
       waiting_with = waiting ++ record { ring = t; redo = b } ∷ []
 
       persisted_is : data_of s rings_with waiting_with home reproduced released (made ++ call ∷ []) (length (made ++ call ∷ [])) marks read ≡ left_of (appends t b) (called call old)
-      persisted_is = λ k. record {
-        sizes = s;
-        rings = rings_with;
-        waiting = waiting_with;
-        home = home;
-        reproduced = reproduced;
-        released = released;
-        ended = whole_with k;
-        calls = none_with k;
-        marks = marks;
-        read = read;
-      }
+      persisted_is = ended_is s rings_with waiting_with home reproduced released marks read
 
       pub persisted_by : (rings2 : List RingData) (waiting2 : List Waiting) (made2 : List Call) (since2 : ℕ) → rings2 ≡ rings_with → waiting2 ≡ waiting_with → made2 ≡ made ++ call ∷ [] → since2 ≡ length made2
           → data_of s rings2 waiting2 home reproduced released made2 since2 marks read ≡ left_of (appends t b) (called call old)
@@ -82,18 +78,7 @@ module _ (made : List Call) (since : ℕ) (call : Call) where
       waiting_left = filter (λ w. nat_lt n w.redo.last) waiting
 
       reproduced_is : data_of s rings_left waiting_left (overwritten ws home) n (max released n) (made ++ call ∷ []) (length (made ++ call ∷ [])) (n ∷ marks) read ≡ left_of (replays ws n) (called call old)
-      reproduced_is = λ k. record {
-        sizes = s;
-        rings = rings_left;
-        waiting = waiting_left;
-        home = overwritten ws home;
-        reproduced = n;
-        released = max released n;
-        ended = whole_with k;
-        calls = none_with k;
-        marks = n ∷ marks;
-        read = read;
-      }
+      reproduced_is = ended_is s rings_left waiting_left (overwritten ws home) n (max released n) (n ∷ marks) read
 
       pub reproduced_by : (rings2 : List RingData) (waiting2 : List Waiting) (home2 : List ℕ) (released2 : ℕ) (made2 : List Call) (since2 : ℕ) (marks2 : List ℕ)
           → rings2 ≡ rings_left → waiting2 ≡ waiting_left → home2 ≡ overwritten ws home → released2 ≡ max released n → made2 ≡ made ++ call ∷ [] → since2 ≡ length made2 → marks2 ≡ n ∷ marks

@@ -10,6 +10,7 @@ pub mod BoxEvents
 pub mod Views
 pub mod Held
 pub mod Moves
+pub mod Memory
 pub mod SetupKept
 pub mod Named
 pub mod RunSetups

@@ -1,13 +1,16 @@
 -- What a view becomes by an event, and by the parts of a check.
-use Rattle.std.specs.Prelude.{◌≡◌, ◌==◌, ℕ, true, [], ◌∷◌, ◌++◌, None, if◌then◌else◌}
+use Rattle.std.specs.Prelude.{◌≡◌, ◌==◌, ℕ, true, [], ◌∷◌, ◌++◌, None, if◌then◌else◌, Result, Ok, Err}
+use Rattle.std.specs.declared.alloc.AllocError.{AllocError}
 use prog.Atomic.{either}
 use Rattle.core_events.specs.Setups.{Setup}
 use Rattle.core_events.specs.Views.{View}
+use Rattle.dude_core.specs.Memory.{MayTakeMemory}
 use Rattle.core_events.specs.Events.{Event, view_after, looked_word, own_word, is_good, all_checked, reaching, extending, validating, replacing}
 
--- the view v becomes w by the event, which found the number n
-abbrev pub Becomes : Setup → Event → View → ℕ → View → Type 0
-Becomes z e v n w = w ≡ view_after z e v n
+-- the view v became w by the event, which found the number n; without memory, which the event may take, it is as it was
+abbrev pub Advances : Result (Unit {0}) AllocError → Setup → Event → View → ℕ → View → Type 0
+Advances (Ok x) z e v n w = w ≡ view_after z e v n
+Advances (Err x) z e v n w = (w ≡ v) × MayTakeMemory e
 
 -- the value x of the home word i waited no longer: it joins the reads where the lock's word n is still the looked-at one
 abbrev pub confirmed : ℕ → ℕ → ℕ → View → View

@@ -12,6 +12,7 @@ use Rattle.dude_core.specs.declared.deed.TurnDeed.{TurnDeed}
 use Rattle.dude_core.specs.declared.deed.TurnDeed.TheVariants.{SeeBox, Post, TakeTurn, GiveTurn, SeeFull, EmptyBox, RaiseDurable, RaiseReproduced}
 use Rattle.dude_core.specs.declared.deed.PageDeed.{PageDeed}
 use Rattle.dude_core.specs.declared.deed.PageDeed.TheVariants.{Entry as SeeEntry, Pin, Unpin, Touch as TouchPage, LoadTouch, Evict, Fill, Show}
+use Rattle.dude_core.specs.declared.filling.Filling.{Filling}
 use Rattle.dude_core.specs.declared.deed.Deed.{Deed}
 use Rattle.dude_core.specs.declared.deed.Deed.TheVariants.{Read, Write, Turn as OfTurn, Page}
 
@@ -63,6 +64,10 @@ of_turn (EmptyBox t j) = empty_box t j
 of_turn (RaiseDurable x) = raise_durable x
 of_turn (RaiseReproduced x) = raise_reproduced x
 
+-- the event of the definitions that fills a home word
+abbrev pub filled : Filling → Event
+filled w = fill w.page w.frame w.at w.value
+
 -- the event of the definitions, of pages and frames
 abbrev pub of_page : PageDeed → Event
 of_page (SeeEntry p) = entry p
@@ -71,7 +76,7 @@ of_page (Unpin p) = unpin p
 of_page (TouchPage p) = touch p
 of_page (LoadTouch p) = load_touch p
 of_page (Evict p) = evict p
-of_page (Fill p f i x) = fill p f i x
+of_page (Fill w) = filled w
 of_page (Show p f) = show p f
 
 -- the event of the definitions

@@ -1,5 +1,5 @@
 -- The events as steps of the machine with its medium.
-use Rattle.std.specs.Prelude.{◌≡◌, ℕ, true, false, List, unwrap_or}
+use Rattle.std.specs.Prelude.{◌≡◌, ◌≢◌, ℕ, true, false, List, Option, Some, None, unwrap_or}
 use Rattle.tatp_model.specs.declared.request.Request.{Request}
 use Rattle.tatp_model.specs.declared.reply.Reply.{Reply}
 use Rattle.core_events.specs.Views.{About}
@@ -95,3 +95,8 @@ group_of (LoadTouch p) = paging
 group_of (Evict p) = paging
 group_of (Fill p f i) = paging
 group_of (Show p f) = paging
+
+-- the event is made as this one of the definitions, whatever was read; or it is in another group
+abbrev pub IsMadeIn : {D : Type 0} → Group → (D → Made) → Event → Option D → Type 0
+IsMadeIn g made d (Some deed) = (read : List (ℕ × ℕ)) → IsEventOf read d (made deed)
+IsMadeIn g made d None = group_of d ≢ g

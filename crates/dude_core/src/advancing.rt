@@ -1,10 +1,11 @@
 //! What becomes of a view by its events.
 
-ghost use Rattle.std.specs.Prelude.{◌≡◌, OnOk, OnErr};
-ghost use Rattle.core_events.specs.Events.{name, view_after};
+ghost use Rattle.std.specs.Prelude.{◌≡◌};
+ghost use Rattle.core_events.specs.Events.{name};
 ghost use Rattle.core_events.specs.Conditions.{May};
 ghost use Rattle.core_events.specs.Telling.{IsSeated, WordTold};
 ghost use Rattle.dude_core.specs.Named.{word_of, event_of};
+ghost use Rattle.dude_core.specs.Moves.{Advances};
 
 use crate::deed::Deed;
 use crate::paging::page;
@@ -29,8 +30,7 @@ pub fn advance(
     requires may { May z.now (event_of deed.now) view.old }
     requires told { WordTold z.now (event_of deed.now) view.old found }
     requires name { word_of word ≡ name z.now (event_of deed.now) view.old }
-    ensures ok { OnOk result (view.new ≡ view_after z.now (event_of deed.now) view.old found) }
-    ensures err { OnErr result (view.new ≡ view.old) }
+    ensures { Advances result z.now (event_of deed.now) view.old found view.new }
 {
     match deed {
         Deed::Read(deed) => read(view, alloc, z, deed, word, found),

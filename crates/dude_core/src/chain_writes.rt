@@ -1,10 +1,9 @@
 //! The writes of waiting bundles that lead from one number to another.
 
-ghost use Rattle.std.specs.Prelude.{◌≡◌, ◌+◌, ◌≤◌, ◌++◌, All, MatchBool, length};
-ghost use Rattle.dude_base.specs.Records.{HasNumbers};
+ghost use Rattle.std.specs.Prelude.{◌≡◌, ◌+◌, ◌≤◌, ◌++◌, MatchBool, length};
 ghost use Rattle.dude_base.specs.Writes.{HasDistinctPlaces};
-ghost use Rattle.redo_record.specs.Waiting.{AreDisjoint, IsEnd};
-ghost use Rattle.dude_core.specs.Chains.{writes_in, HasTaken};
+ghost use Rattle.redo_record.specs.Waiting.{IsEnd};
+ghost use Rattle.dude_core.specs.Chains.{CanChain, HasTaken};
 
 use crate::leading::bundle_behind;
 use crate::waiting_bundle::WaitingBundle;
@@ -14,9 +13,7 @@ use group_combine::Group;
 /// Takes the writes of the waiting bundles that lead from one number to another; whether there are
 /// such bundles.
 pub(crate) fn take_chain(out: &mut Group, waiting: &[WaitingBundle], from: u64, number: u64) -> bool
-    requires numbers { All (λ w. HasNumbers w.redo) waiting.now }
-    requires distinct { AreDisjoint waiting.now }
-    requires room { writes_in waiting.now ≤ out.old.room }
+    requires { CanChain waiting.now out.old.room }
     ensures room { out.new.room ≡ out.old.room }
     ensures taken { MatchBool result (HasTaken waiting.now from number out.new.taken)
         (IsEnd waiting.now from number → ⊥) }

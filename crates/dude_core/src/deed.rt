@@ -1,6 +1,7 @@
 //! The events that a view makes by itself, in four groups.
 
 use crate::about::About;
+use crate::filling::Filling;
 use dude_base::write_list::WriteList;
 
 /// An event that a view makes by itself.
@@ -51,32 +52,12 @@ pub enum TurnDeed {
 /// An event of pages and frames.
 #[derive(Drop)]
 pub enum PageDeed {
-    Entry {
-        page: u64,
-    },
-    Pin {
-        page: u64,
-    },
-    Unpin {
-        page: u64,
-    },
-    Touch {
-        page: u64,
-    },
-    LoadTouch {
-        page: u64,
-    },
-    Evict {
-        page: u64,
-    },
-    Fill {
-        page: u64,
-        frame: u64,
-        at: u64,
-        value: u64,
-    },
-    Show {
-        page: u64,
-        frame: u64,
-    },
+    Entry { page: u64 },
+    Pin { page: u64 },
+    Unpin { page: u64 },
+    Touch { page: u64 },
+    LoadTouch { page: u64 },
+    Evict { page: u64 },
+    Fill { filling: Filling },
+    Show { page: u64, frame: u64 },
 }

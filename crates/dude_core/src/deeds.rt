@@ -1,12 +1,13 @@
 //! Events as those that a view makes by itself, a group at a time.
 
-ghost use Rattle.std.specs.Prelude.{◌≡◌, ◌≢◌, ℕ, List, IfSome, IfNone};
+ghost use Rattle.std.specs.Prelude.{◌≡◌, ◌≢◌, IfSome, IfNone};
 ghost use Rattle.dude_core.specs.Named.{event_of, of_read, of_write, of_turn, of_page};
-ghost use Rattle.dude_core.specs.Steps.{IsEventOf, group_of, other_group, reading, writing, turning, paging};
+ghost use Rattle.dude_core.specs.Steps.{IsEventOf, IsMadeIn, group_of, other_group, reading, writing, turning, paging};
 
 use crate::about::About;
 use crate::deed::{Deed, PageDeed, ReadDeed, TurnDeed, WriteDeed};
 use crate::event::Event;
+use crate::filling::Filling;
 use crate::store::Store;
 use dude_base::redo::Redo;
 use dude_base::write_list::WriteList;
@@ -32,9 +33,7 @@ pub(crate) fn deed_of(event: &Event, store: &Store) -> Deed
 }
 
 fn read_deed(event: &Event) -> Option<ReadDeed>
-    ensures some { IfSome result (λ deed. (read : List (ℕ × ℕ))
-        → IsEventOf read event.now (of_read deed)) }
-    ensures none { IfNone result (group_of event.now ≢ reading) }
+    ensures { IsMadeIn reading of_read event.now result }
 {
     match event {
         Event::Number => Some(ReadDeed::Number),
@@ -61,9 +60,7 @@ fn read_deed(event: &Event) -> Option<ReadDeed>
 }
 
 fn write_deed(event: &Event) -> Option<WriteDeed>
-    ensures some { IfSome result (λ deed. (read : List (ℕ × ℕ))
-        → IsEventOf read event.now (of_write deed)) }
-    ensures none { IfNone result (group_of event.now ≢ writing) }
+    ensures { IsMadeIn writing of_write event.now result }
 {
     match event {
         Event::Take { lock } => Some(WriteDeed::Take { lock: *lock }),
@@ -86,9 +83,7 @@ fn write_deed(event: &Event) -> Option<WriteDeed>
 }
 
 fn turn_deed(event: &Event) -> Option<TurnDeed>
-    ensures some { IfSome result (λ deed. (read : List (ℕ × ℕ))
-        → IsEventOf read event.now (of_turn deed)) }
-    ensures none { IfNone result (group_of event.now ≢ turning) }
+    ensures { IsMadeIn turning of_turn event.now result }
 {
     match event {
         Event::SeeBox => Some(TurnDeed::SeeBox),
@@ -120,12 +115,15 @@ fn page_deed(event: &Event, store: &Store) -> Option<PageDeed>
         Event::Touch { page } => Some(PageDeed::Touch { page: *page }),
         Event::LoadTouch { page } => Some(PageDeed::LoadTouch { page: *page }),
         Event::Evict { page } => Some(PageDeed::Evict { page: *page }),
-        Event::Fill { page, frame, at } => Some(PageDeed::Fill {
-            page: *page,
-            frame: *frame,
-            at: *at,
-            value: store.word_read(*at).unwrap_or(0),
-        }),
+        Event::Fill { page, frame, at } => {
+            let filling = Filling {
+                page: *page,
+                frame: *frame,
+                at: *at,
+                value: store.word_read(*at).unwrap_or(0),
+            };
+            Some(PageDeed::Fill { filling })
+        }
         Event::Show { page, frame } => Some(PageDeed::Show {
             page: *page,
             frame: *frame,

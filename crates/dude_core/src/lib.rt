@@ -32,6 +32,7 @@ mod drops;
 mod edits;
 pub mod entry;
 mod event;
+pub mod filling;
 mod first_lists;
 mod fit;
 mod gathered;

@@ -1,8 +1,9 @@
 //! The machine: made over home words, read, and led on by one event after another.
 
-ghost use Rattle.std.specs.Prelude.{◌≡◌, ◌*◌, ◌≤◌, length, slice_get, option_map, IfOk, IfErr, OnOk, OnErr};
+ghost use Rattle.std.specs.Prelude.{◌≡◌, ◌≢◌, ◌*◌, ◌≤◌, length, slice_get, option_map, Err, IfOk, IfErr, OnOk, OnErr};
 ghost use Rattle.core_events.specs.Setups.{IsSetup};
 ghost use Rattle.core_medium.specs.KeptStore.{MachineKept};
+ghost use Rattle.dude_core.specs.Memory.{TakesNoMemory};
 ghost use Rattle.dude_core.specs.StateSteps.{IsOffOnlyIn};
 ghost use Rattle.dude_core.specs.CoreState.{CoreState, machine_of, LeadsTo};
 ghost use Rattle.dude_core.specs.MadeCores.{size_fault};
@@ -142,8 +143,8 @@ fn size_fault(sizes: &Sizes, run: &Run) -> CoreFault
     }
 }
 
-/// Makes an event by the view `who`. It is `Off` exactly where the definitions don't allow it;
-/// after an `Err` the core is as it was.
+/// Makes an event by the view `who`. It is `Off` exactly where the definitions don't allow it, and
+/// lacks memory only where it takes some; after an `Err` the core is as it was.
 pub fn core_step(alloc: Global, core: &mut Core, who: u64, event: &Event) -> Result<(), CoreRefusal>
     ensures ok { OnOk result
         (LeadsTo core.old (step_of core.old.store.read who event.now) core.new) }
@@ -152,6 +153,7 @@ pub fn core_step(alloc: Global, core: &mut Core, who: u64, event: &Event) -> Res
     ensures err { OnErr result (core.new ≡ core.old) }
     ensures off { IsOffOnlyIn result core.old.setup (machine_of core.old)
         (step_of core.old.store.read who event.now) }
+    ensures no_memory { TakesNoMemory event.now → result ≢ Err CoreRefusal.NoMemory }
 {
     step(
         &mut core.state,

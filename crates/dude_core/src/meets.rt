@@ -98,15 +98,10 @@ impl State {
             PageDeed::Touch { page: _ } => true,
             PageDeed::LoadTouch { page: _ } => true,
             PageDeed::Evict { page: _ } => true,
-            PageDeed::Fill {
-                page,
-                frame,
-                at,
-                value,
-            } => {
-                self.is_free(z, *frame)
-                    && view.touch_is_up_to(*page, self.reproduced)
-                    && was_read(store, *at, *value)
+            PageDeed::Fill { filling } => {
+                self.is_free(z, filling.frame)
+                    && view.touch_is_up_to(filling.page, self.reproduced)
+                    && was_read(store, filling.at, filling.value)
             }
             PageDeed::Show { page: _, frame: _ } => true,
         }

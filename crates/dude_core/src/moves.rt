@@ -2,6 +2,7 @@
 
 ghost use Rattle.std.specs.Prelude.{◌≡◌, OnOk, OnErr};
 ghost use Rattle.core_events.specs.Events.{word_after};
+ghost use Rattle.dude_core.specs.Memory.{MayTakeMemory};
 ghost use Rattle.dude_core.specs.Named.{word_of, event_of};
 ghost use Rattle.dude_core.specs.StateSteps.{IsReady, IsMoved};
 ghost use Rattle.dude_core.specs.Views.{OfView, IsNameAt, IsFoundAt, HasAdvanced};
@@ -27,6 +28,7 @@ impl State {
         requires { IsReady z.now self.old who (event_of deed.now) }
         ensures ok { OnOk result (IsMoved z.now self.old who (event_of deed.now) self.new) }
         ensures err { OnErr result (self.new ≡ self.old) }
+        ensures memory { OnErr result (MayTakeMemory (event_of deed.now)) }
     {
         let word = self.name_of(z, who, deed);
         let found = self.found(word);
@@ -65,6 +67,7 @@ impl State {
         requires found { IsFoundAt z.now self.old who (event_of deed.now) found }
         ensures ok { OnOk result (HasAdvanced z.now self.old who deed.now found self.new) }
         ensures err { OnErr result (self.new ≡ self.old) }
+        ensures memory { OnErr result (MayTakeMemory (event_of deed.now)) }
     {
         advance(&mut self.views[who as usize], alloc, z, deed, word, found)?;
         Ok(())

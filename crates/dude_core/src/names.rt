@@ -89,12 +89,7 @@ fn name_to_page(view: &View, z: &Setup, deed: &PageDeed) -> Word
         PageDeed::Touch { page } => Word::Touch(*page),
         PageDeed::LoadTouch { page } => Word::Touch(*page),
         PageDeed::Evict { page } => Word::Entry(*page),
-        PageDeed::Fill {
-            page: _,
-            frame,
-            at,
-            value: _,
-        } => Word::Cell(z.cell_of(*frame, *at)),
+        PageDeed::Fill { filling } => Word::Cell(z.cell_of(filling.frame, filling.at)),
         PageDeed::Show { page, frame: _ } => Word::Entry(*page),
     }
 }

@@ -1,11 +1,12 @@
 //! Where a view allows the events of pages and frames.
 
 ghost use Rattle.core_events.specs.Conditions.{May, IsStoredAndTouched};
-ghost use Rattle.core_events.specs.Events.{entry, pin, unpin, touch, load_touch, evict, fill, show};
-ghost use Rattle.dude_core.specs.Named.{Tells, of_page};
+ghost use Rattle.core_events.specs.Events.{entry, pin, unpin, touch, load_touch, evict, show};
+ghost use Rattle.dude_core.specs.Named.{Tells, filled, of_page};
 ghost use Rattle.dude_core.specs.Held.{HasSettledIn};
 
 use crate::deed::PageDeed;
+use crate::filling::Filling;
 use crate::setup::Setup;
 use crate::view::View;
 use crate::write_scans::{settled_in, writes_in};
@@ -22,12 +23,7 @@ pub(crate) fn may_page(view: &View, z: &Setup, deed: &PageDeed) -> bool
         PageDeed::Touch { page } => may_touch(view, z, *page),
         PageDeed::LoadTouch { page } => may_load_touch(view, z, *page),
         PageDeed::Evict { page } => may_evict(view, z, *page),
-        PageDeed::Fill {
-            page,
-            frame,
-            at,
-            value: _,
-        } => may_fill(view, z, *page, *frame, *at),
+        PageDeed::Fill { filling } => may_fill(view, z, *filling),
         PageDeed::Show { page, frame } => may_show(view, z, *page, *frame),
     }
 }
@@ -98,16 +94,16 @@ fn may_evict(view: &View, z: &Setup, page: u64) -> bool
     view.is_awake() && page < z.pages() && view.turn.has_it && view.keeps_frame(page)
 }
 
-fn may_fill(view: &View, z: &Setup, page: u64, frame: u64, at: u64) -> bool
-    ensures { (x : _) → Tells result (May z.now (fill page frame at x) view.now) }
+fn may_fill(view: &View, z: &Setup, filling: Filling) -> bool
+    ensures { Tells result (May z.now (filled filling) view.now) }
 {
     view.is_awake()
-        && page < z.pages()
-        && frame < z.frames()
-        && at < z.pages() * PAGE
+        && filling.page < z.pages()
+        && filling.frame < z.frames()
+        && filling.at < z.pages() * PAGE
         && view.turn.has_it
-        && at / PAGE == page
-        && view.turn.touches.has_key(page)
+        && filling.at / PAGE == filling.page
+        && view.turn.touches.has_key(filling.page)
 }
 
 fn may_show(view: &View, z: &Setup, page: u64, frame: u64) -> bool

@@ -2,12 +2,13 @@
 
 ghost use Rattle.std.specs.Prelude.{◌≡◌, ◌<◌, OnOk, OnErr};
 ghost use Rattle.core_events.specs.Setups.{page_of};
-ghost use Rattle.core_events.specs.Events.{entry, pin, load_touch, evict, fill, show, name, view_after};
+ghost use Rattle.core_events.specs.Events.{entry, pin, load_touch, evict, show, name};
 ghost use Rattle.core_events.specs.Conditions.{May};
-ghost use Rattle.dude_core.specs.Named.{word_of, of_page};
-ghost use Rattle.dude_core.specs.Moves.{Becomes, replaced};
+ghost use Rattle.dude_core.specs.Named.{word_of, filled, of_page};
+ghost use Rattle.dude_core.specs.Moves.{Advances, replaced};
 
 use crate::deed::PageDeed;
+use crate::filling::Filling;
 use crate::setup::{Setup, frame_in};
 use crate::view::View;
 use crate::word::Word;
@@ -23,8 +24,7 @@ pub(crate) fn page(
 ) -> Result<(), AllocError>
     requires may { May z.now (of_page deed.now) view.old }
     requires name { word_of word ≡ name z.now (of_page deed.now) view.old }
-    ensures ok { OnOk result (view.new ≡ view_after z.now (of_page deed.now) view.old found) }
-    ensures err { OnErr result (view.new ≡ view.old) }
+    ensures { Advances result z.now (of_page deed.now) view.old found view.new }
 {
     match deed {
         PageDeed::Entry { page } => see_entry(view, z, *page, found),
@@ -39,19 +39,13 @@ pub(crate) fn page(
         }
         PageDeed::LoadTouch { page } => load_touch(view, z, *page, found),
         PageDeed::Evict { page } => evict(view, z, *page, found),
-        PageDeed::Fill {
-            page,
-            frame,
-            at,
-            value,
-        } => fill(view, z, *page, *frame, *at, *value, found),
+        PageDeed::Fill { filling } => fill(view, z, *filling, found),
         PageDeed::Show { page, frame } => show(view, z, *page, *frame, found),
     }
 }
 
 fn see_entry(view: &mut View, z: &Setup, page: u64, found: u64) -> Result<(), AllocError>
-    ensures ok { OnOk result (view.new ≡ view_after z.now (entry page) view.old found) }
-    ensures err { OnErr result (view.new ≡ view.old) }
+    ensures { Advances result z.now (entry page) view.old found view.new }
 {
     view.paging.entries.put_first(page, found)?;
     view.notice(Word::Entry(page), found);
@@ -59,8 +53,7 @@ fn see_entry(view: &mut View, z: &Setup, page: u64, found: u64) -> Result<(), Al
 }
 
 fn pin(view: &mut View, z: &Setup, page: u64, found: u64) -> Result<(), AllocError>
-    ensures ok { OnOk result (view.new ≡ view_after z.now (pin page) view.old found) }
-    ensures err { OnErr result (view.new ≡ view.old) }
+    ensures { Advances result z.now (pin page) view.old found view.new }
 {
     if found == view.kept_entry(page) {
         view.paging.pins.put_first(page, frame_in(found))?;
@@ -70,18 +63,8 @@ fn pin(view: &mut View, z: &Setup, page: u64, found: u64) -> Result<(), AllocErr
     Ok(())
 }
 
-fn load_touch(view: &mut View, z: &Setup, page: u64, found: u64) -> Result<(), AllocError>
-    ensures ok { OnOk result (view.new ≡ view_after z.now (load_touch page) view.old found) }
-    ensures err { OnErr result (view.new ≡ view.old) }
-{
-    view.turn.touches.put_first(page, found)?;
-    view.notice(Word::Touch(page), found);
-    Ok(())
-}
-
 fn evict(view: &mut View, z: &Setup, page: u64, found: u64) -> Result<(), AllocError>
-    ensures ok { OnOk result (view.new ≡ view_after z.now (evict page) view.old found) }
-    ensures err { OnErr result (view.new ≡ view.old) }
+    ensures { Advances result z.now (evict page) view.old found view.new }
 {
     if view.would_evict(page, found) {
         replace(view, page, 0)?;
@@ -103,27 +86,27 @@ fn replace(view: &mut View, page: u64, entry: u64) -> Result<(), AllocError>
 }
 
 // Filling another page into a frame drops what was filled there.
-fn fill(
-    view: &mut View,
-    z: &Setup,
-    page: u64,
-    frame: u64,
-    at: u64,
-    value: u64,
-    found: u64,
-) -> Result<(), AllocError>
-    requires { page_of at ≡ page }
-    ensures ok { OnOk result (Becomes z.now (fill page frame at value) view.old found view.new) }
-    ensures err { OnErr result (view.new ≡ view.old) }
+fn fill(view: &mut View, z: &Setup, filling: Filling, found: u64) -> Result<(), AllocError>
+    requires { page_of filling.at ≡ filling.page }
+    ensures { Advances result z.now (filled filling) view.old found view.new }
 {
-    view.turn.filled.fill(page, frame, at)
+    view.turn
+        .filled
+        .fill(filling.page, filling.frame, filling.at)
 }
 
 fn show(view: &mut View, z: &Setup, page: u64, frame: u64, found: u64) -> Result<(), AllocError>
     requires { frame < z.now.frames }
-    ensures ok { OnOk result (view.new ≡ view_after z.now (show page frame) view.old found) }
-    ensures err { OnErr result (view.new ≡ view.old) }
+    ensures { Advances result z.now (show page frame) view.old found view.new }
 {
     replace(view, page, z.entry_of(frame))?;
+    Ok(())
+}
+
+fn load_touch(view: &mut View, z: &Setup, page: u64, found: u64) -> Result<(), AllocError>
+    ensures { Advances result z.now (load_touch page) view.old found view.new }
+{
+    view.turn.touches.put_first(page, found)?;
+    view.notice(Word::Touch(page), found);
     Ok(())
 }

@@ -3,7 +3,7 @@
 ghost use Rattle.std.specs.Prelude.{◌≡◌, OnOk, OnErr};
 ghost use Rattle.core_events.specs.Events.{begin, extend, load, check, finish, look, name, view_after};
 ghost use Rattle.dude_core.specs.Named.{word_of, of_read};
-ghost use Rattle.dude_core.specs.Moves.{confirmed, reached, extended, validated};
+ghost use Rattle.dude_core.specs.Moves.{Advances, confirmed, reached, extended, validated};
 
 use crate::about::About;
 use crate::deed::ReadDeed;
@@ -23,8 +23,7 @@ pub(crate) fn read(
     found: u64,
 ) -> Result<(), AllocError>
     requires name { word_of word ≡ name z.now (of_read deed.now) view.old }
-    ensures ok { OnOk result (view.new ≡ view_after z.now (of_read deed.now) view.old found) }
-    ensures err { OnErr result (view.new ≡ view.old) }
+    ensures { Advances result z.now (of_read deed.now) view.old found view.new }
 {
     match deed {
         ReadDeed::Number => view.part.thread = Some(found),
@@ -88,8 +87,7 @@ fn load(view: &mut View, z: &Setup, at: u64, word: Word, found: u64)
 }
 
 fn check(view: &mut View, z: &Setup, lock: u64, found: u64) -> Result<(), AllocError>
-    ensures ok { OnOk result (view.new ≡ view_after z.now (check lock) view.old found) }
-    ensures err { OnErr result (view.new ≡ view.old) }
+    ensures { Advances result z.now (check lock) view.old found view.new }
 {
     match view.tx.loaded {
         Some((at, value)) => confirm(view, at, value, found)?,
@@ -156,8 +154,7 @@ fn finish(
     about: &About,
     found: u64,
 ) -> Result<(), AllocError>
-    ensures ok { OnOk result (view.new ≡ view_after z.now (finish about.now) view.old found) }
-    ensures err { OnErr result (view.new ≡ view.old) }
+    ensures { Advances result z.now (finish about.now) view.old found view.new }
 {
     let entry = Entry {
         number: view.tx.snapshot,

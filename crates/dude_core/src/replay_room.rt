@@ -1,10 +1,9 @@
 //! Room for the writes of bundles that are reproduced together.
 
-ghost use Rattle.std.specs.Prelude.{◌≡◌, ◌^◌, ◌<◌, ◌≤◌, [], ◌++◌, All, IfOk, MatchBool, length, vec_len};
+ghost use Rattle.std.specs.Prelude.{◌≡◌, ◌^◌, ◌<◌, ◌≤◌, [], IfOk, MatchBool, length, vec_len};
 ghost use Rattle.std.specs.Vec.{vec_capacity};
-ghost use Rattle.dude_base.specs.Records.{HasNumbers};
-ghost use Rattle.redo_record.specs.Waiting.{AreDisjoint, IsEnd};
-ghost use Rattle.dude_core.specs.Chains.{writes_in};
+ghost use Rattle.redo_record.specs.Waiting.{IsEnd};
+ghost use Rattle.dude_core.specs.Chains.{CanChain};
 ghost use Rattle.dude_core.specs.ReplayRooms.{BringsOn};
 
 use crate::chain_writes::take_chain;
@@ -70,9 +69,7 @@ impl ReplayRoom {
     /// Makes the writes those of the waiting bundles that lead from one number to another; whether
     /// there are such bundles.
     pub(crate) fn fill(&mut self, waiting: &[WaitingBundle], from: u64, number: u64) -> bool
-        requires numbers { All (λ w. HasNumbers w.redo) waiting.now }
-        requires distinct { AreDisjoint waiting.now }
-        requires room { writes_in waiting.now ≤ self.old.room }
+        requires { CanChain waiting.now self.old.room }
         ensures room { self.new.room ≡ self.old.room }
         ensures filled { MatchBool result (BringsOn waiting.now from number self.new.writes)
             (IsEnd waiting.now from number → ⊥) }

@@ -1,6 +1,6 @@
 //! Events and partings of views, on the state.
 
-ghost use Rattle.std.specs.Prelude.{◌≡◌, slice_index_or, slice_set, OnOk, OnErr};
+ghost use Rattle.std.specs.Prelude.{◌≡◌, slice_index_or, slice_set, OnOk, OnErr, IsErrOf};
 ghost use mathlib.Core.Option.{some};
 ghost use lib.ListN.{get_elem?};
 ghost use Rattle.core_events.specs.Views.{View as Seen};
@@ -10,6 +10,7 @@ ghost use Rattle.core_events.specs.Partings.{Leads};
 ghost use Rattle.core_events.specs.Kept.{Kept};
 ghost use Rattle.core_medium.specs.KeptStore.{MachineKept};
 ghost use Rattle.core_medium.specs.Machines.{MachineLeads};
+ghost use Rattle.dude_core.specs.Memory.{MayTakeMemory};
 ghost use Rattle.dude_core.specs.Named.{event_of};
 ghost use Rattle.dude_core.specs.StateSteps.{IsOffOnlyIn, event_by, machine_step};
 ghost use Rattle.dude_core.specs.Stands.{machine_over};
@@ -44,6 +45,7 @@ impl State {
         ensures same { OnErr result (store.new ≡ store.old) }
         ensures off { IsOffOnlyIn result z.now (machine_over z.now self.old store.old)
             (machine_step who deed.now) }
+        ensures memory { IsErrOf result CoreRefusal.NoMemory → MayTakeMemory (event_of deed.now) }
     {
         if !self.may_make(store, z, who, deed) {
             return Err(CoreRefusal::Off);
@@ -64,6 +66,7 @@ impl State {
         requires allowed { (v : Seen) × IsAllowed z.now self.old who (event_of deed.now) v }
         ensures ok { OnOk result (Leads z.now self.old (event_by who deed.now) self.new) }
         ensures err { OnErr result (self.new ≡ self.old) }
+        ensures memory { OnErr result (MayTakeMemory (event_of deed.now)) }
     {
         match BoxEvent::of(deed) {
             BoxEvent::Post => {

@@ -1,9 +1,10 @@
 //! An event made on the state and its store.
 
-ghost use Rattle.std.specs.Prelude.{◌≡◌, ◌≤◌, OnOk, OnErr};
+ghost use Rattle.std.specs.Prelude.{◌≡◌, ◌≢◌, ◌≤◌, Err, OnOk, OnErr};
 ghost use Rattle.core_medium.specs.KeptStore.{MachineKept};
 ghost use Rattle.core_medium.specs.Machines.{MachineLeads};
 ghost use Rattle.dude_core.specs.Chains.{writes_in};
+ghost use Rattle.dude_core.specs.Memory.{TakesNoMemory};
 ghost use Rattle.dude_core.specs.StateSteps.{IsOffOnlyIn};
 ghost use Rattle.dude_core.specs.Stands.{machine_over};
 ghost use Rattle.dude_core.specs.Steps.{step_of};
@@ -36,6 +37,7 @@ pub(crate) fn step(
     ensures same { OnErr result (store.new ≡ store.old) }
     ensures off { IsOffOnlyIn result z.now (machine_over z.now state.old store.old)
         (step_of store.old.read who event.now) }
+    ensures no_memory { TakesNoMemory event.now → result ≢ Err CoreRefusal.NoMemory }
 {
     match event {
         Event::Split { draws } => state.split(alloc, z, who, *draws),

@@ -1,11 +1,12 @@
 //! What becomes of a view by the events of boxes and of the turn.
 
-ghost use Rattle.std.specs.Prelude.{◌≡◌, ◌<◌, OnOk, OnErr};
+ghost use Rattle.std.specs.Prelude.{◌≡◌, ◌<◌};
 ghost use Rattle.core_events.specs.Setups.{box_of};
 ghost use Rattle.core_events.specs.Events.{see_box, post, take_turn, give_turn, see_full, name, view_after};
 ghost use Rattle.core_events.specs.Conditions.{May};
 ghost use Rattle.core_events.specs.Telling.{IsSeated};
 ghost use Rattle.dude_core.specs.Named.{word_of, of_turn};
+ghost use Rattle.dude_core.specs.Moves.{Advances};
 
 use crate::about::About;
 use crate::deed::TurnDeed;
@@ -28,8 +29,7 @@ pub(crate) fn turn(
     requires seated { IsSeated z.now view.old }
     requires may { May z.now (of_turn deed.now) view.old }
     requires name { word_of word ≡ name z.now (of_turn deed.now) view.old }
-    ensures ok { OnOk result (view.new ≡ view_after z.now (of_turn deed.now) view.old found) }
-    ensures err { OnErr result (view.new ≡ view.old) }
+    ensures { Advances result z.now (of_turn deed.now) view.old found view.new }
 {
     match deed {
         TurnDeed::SeeBox => see_box(view, z, word, found),
@@ -106,8 +106,7 @@ fn see_full(
     requires thread { thread < z.now.threads }
     requires place { place < z.now.boxes }
     requires name { word_of word ≡ name z.now (see_full thread place) view.old }
-    ensures ok { OnOk result (view.new ≡ view_after z.now (see_full thread place) view.old found) }
-    ensures err { OnErr result (view.new ≡ view.old) }
+    ensures { Advances result z.now (see_full thread place) view.old found view.new }
 {
     if found != 0 {
         view.turn.full.put_first(z.box_of(thread, place), found)?;

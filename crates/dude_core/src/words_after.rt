@@ -124,12 +124,7 @@ fn after_page(view: &View, z: &Setup, deed: &PageDeed, found: u64) -> u64
         PageDeed::Touch { page: _ } => found.max(view.tx.hand.number),
         PageDeed::LoadTouch { page: _ } => found,
         PageDeed::Evict { page } => evicted_word(view, *page, found),
-        PageDeed::Fill {
-            page: _,
-            frame: _,
-            at: _,
-            value,
-        } => *value,
+        PageDeed::Fill { filling } => filling.value,
         PageDeed::Show { page: _, frame } => z.entry_of(*frame),
     }
 }

@@ -1,12 +1,12 @@
 //! What becomes of a view by the events of a transaction that writes.
 
-ghost use Rattle.std.specs.Prelude.{◌≡◌, ◌<◌, ◌-◌, ◌^◌, OnOk, OnErr};
+ghost use Rattle.std.specs.Prelude.{◌≡◌, ◌<◌, ◌-◌, ◌^◌};
 ghost use Rattle.dude_base.specs.declared.limits.TheConstants.{MAX_NUMBER};
-ghost use Rattle.core_events.specs.Events.{take, draw, decide, store, release, restore, name, view_after};
+ghost use Rattle.core_events.specs.Events.{take, draw, decide, name};
 ghost use Rattle.core_events.specs.Telling.{WordTold};
 ghost use Rattle.core_events.specs.Conditions.{May};
 ghost use Rattle.dude_core.specs.Named.{word_of, of_write};
-ghost use Rattle.dude_core.specs.Moves.{Becomes};
+ghost use Rattle.dude_core.specs.Moves.{Advances};
 
 use crate::about::About;
 use crate::deed::WriteDeed;
@@ -29,8 +29,7 @@ pub(crate) fn write(
     requires may { May z.now (of_write deed.now) view.old }
     requires told { WordTold z.now (of_write deed.now) view.old found }
     requires name { word_of word ≡ name z.now (of_write deed.now) view.old }
-    ensures ok { OnOk result (view.new ≡ view_after z.now (of_write deed.now) view.old found) }
-    ensures err { OnErr result (view.new ≡ view.old) }
+    ensures { Advances result z.now (of_write deed.now) view.old found view.new }
 {
     match deed {
         WriteDeed::Take { lock } => take(view, z, *lock, found),
@@ -52,8 +51,7 @@ pub(crate) fn write(
 }
 
 fn take(view: &mut View, z: &Setup, lock: u64, found: u64) -> Result<(), AllocError>
-    ensures ok { OnOk result (view.new ≡ view_after z.now (take lock) view.old found) }
-    ensures err { OnErr result (view.new ≡ view.old) }
+    ensures { Advances result z.now (take lock) view.old found view.new }
 {
     if found == view.looked_word() {
         view.tx.owned.put_first(lock, found)?;
@@ -72,8 +70,7 @@ fn draw(
     found: u64,
 ) -> Result<(), AllocError>
     requires { found < 2 ^ 64 - 1 }
-    ensures ok { OnOk result (Becomes z.now (draw about.now writes.now) view.old found view.new) }
-    ensures err { OnErr result (view.new ≡ view.old) }
+    ensures { Advances result z.now (draw about.now writes.now) view.old found view.new }
 {
     let number = found + 1;
     view.drawn.put_last(number)?;
@@ -97,8 +94,7 @@ fn decide(
     found: u64,
 ) -> Result<(), AllocError>
     requires name { word_of word ≡ name z.now decide view.old }
-    ensures ok { OnOk result (view.new ≡ view_after z.now decide view.old found) }
-    ensures err { OnErr result (view.new ≡ view.old) }
+    ensures { Advances result z.now decide view.old found view.new }
 {
     let reads = view.tx.reads.copy(alloc)?;
     let entry = Entry {

@@ -3,6 +3,9 @@ use Rattle.dude_core.proofs.Chains.{no_end}
 use Rattle.dude_core.proofs.ChainWrites.{Taking, taking_room, taking_more, taking_stuck, taking_tells}
 use Rattle.dude_core.proofs.chain_writes.take_chain.Goals as goal
 
+pub bundle_behind-requires : goal.bundle_behind-requires
+bundle_behind-requires c = c.requires.numbers
+
 pub take_bundle-requires : goal.take_bundle-requires
 take_bundle-requires c =
     let w = c.in-Some.ensures.some in

@@ -1,12 +1,17 @@
 use Rattle.std.proofs.Common.{◌∷◌, ℕ, List, sym, subst}
-use Rattle.redo_record.specs.Waiting.{Waiting, AreDisjoint}
+use Rattle.redo_record.specs.Waiting.{Waiting}
 use Rattle.dude_core.specs.StoreData.{tells}
+use Rattle.dude_core.specs.Chains.{CanChain}
 use Rattle.dude_core.specs.ReplayRooms.{BringsOn}
 use Rattle.dude_core.proofs.NextCalls.{brought_inside, replays_by, replays_none, some_by, none_by}
 use Rattle.dude_core.proofs.replaying.replays_to.Goals as goal
 
-pub fill-requires-clause-distinct : goal.fill-requires-clause-distinct
-fill-requires-clause-distinct c = subst AreDisjoint (sym c.waiting.ensures.waiting) c.requires.apart.distinct
+pub fill-requires : goal.fill-requires
+fill-requires c = subst (λ (ws : List Waiting). CanChain ws c.args.room.now.room) (sym c.waiting.ensures.waiting) (record {
+  numbers = c.waiting.ensures.numbers;
+  distinct = c.requires.apart.distinct;
+  room = c.requires.room;
+})
 
 brought : (c : goal.After-replay_ends) → BringsOn c.args.store.now.waiting c.args.store.now.reproduced c.args.number c.fill.new.self.writes
 brought c =

@@ -4,6 +4,13 @@ use Rattle.dude_core.specs.ReplayRooms.{RoomData, BringsOn}
 use Rattle.dude_core.proofs.ChainWrites.{brings_on}
 use Rattle.dude_core.proofs.replay_room.ReplayRoom.fill.Goals as goal
 
+pub take_chain-requires : goal.take_chain-requires
+take_chain-requires c = record {
+  numbers = c.requires.numbers;
+  distinct = c.requires.distinct;
+  room = (let most = c.requires.room in let room = ap (λ (r : RoomData). r.room) c.self.view_is in let group = c.self.invariant.group in omega arith);
+}
+
 pub copy_writes-requires : goal.copy_writes-requires
 copy_writes-requires c =
     let few = c.if-not-take_chain.ensures.taken.few in let less = c.finish.ensures.few in let most = c.requires.room in

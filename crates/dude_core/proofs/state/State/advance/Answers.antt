@@ -27,4 +27,4 @@ pub returns-clause-ok : goal.returns-clause-ok
 returns-clause-ok c = λ v at.
     ap (λ (s : State). record s { views = set s.views c.args.who c.advance.new.view }) c.self.view_is
     ∙ ap (λ (x : View). record c.args.self.now { views = set c.args.self.now.views c.args.who x })
-    (c.in_ok-advance.ensures.ok ∙ ap (λ (u : View). view_after c.args.z.now (event_of c.args.deed.now) u c.args.found) (same_there c.self.inside.views.items c.args.self.now.views c.args.who v c.index_mut.result.now (ap (λ (s : State). s.views) c.self.view_is) at c.index_mut.ensures.value))
+    (c.in_ok-advance.ensures ∙ ap (λ (u : View). view_after c.args.z.now (event_of c.args.deed.now) u c.args.found) (same_there c.self.inside.views.items c.args.self.now.views c.args.who v c.index_mut.result.now (ap (λ (s : State). s.views) c.self.view_is) at c.index_mut.ensures.value))

@@ -25,3 +25,6 @@ returns-in-Ok-clause-off c = make_off c.args.z.now c.args.self.now c.args.store.
 
 pub returns-in-Err-clause-off : goal.returns-in-Err-clause-off
 returns-in-Err-clause-off c = make_off c.args.z.now c.args.self.now c.args.store.now c.args.who (event_of c.args.deed.now) c.if-not-may_make.ensures (λ e. absurd cc)
+
+pub returns-in-Err-clause-memory : goal.returns-in-Err-clause-memory
+returns-in-Err-clause-memory c = λ lacks. c.in-Err.ensures.memory
