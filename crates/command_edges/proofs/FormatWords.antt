@@ -5,28 +5,20 @@ use Rattle.std.specs.Prelude.{◌==◌, ◌&&◌, if◌then◌else◌}
 use Rattle.dude_base.specs.declared.limits.TheConstants.{MAX_RINGS}
 use Rattle.clap.specs.Walk.{Held, Row, Text, idle, nothing_held, value, walked}
 use Rattle.clap.specs.Simple.{Shape, built, matches_of}
-use Rattle.clap.specs.Faults.{defaults_fault, fault_of, is_simple_and_free, step_fault, walk_fault}
+use Rattle.clap.specs.Faults.{defaults_fault, fault_of, step_fault, walk_fault}
 use Rattle.clap.specs.Kinds.{or_else}
 use Rattle.clap.specs.ValueTests.{accepts}
 use Rattle.clap.specs.declared.builder.value_parser.ValueParser.TheVariants as vp
-use Rattle.clap.proofs.OnLiterals.{clap_on_literals}
 use Rattle.command_edges.specs.Command.{format_of, format_with}
 use Rattle.command_edges.specs.Clap.{format_app, format_in, has_format_form, is_number, parsed_number}
 use Rattle.command_edges.proofs.NumberWords.{both, first-digit, word_number-parsed}
 use Rattle.command_edges.proofs.Plain.{at, fault-idle, walked-idle}
 use Rattle.command_edges.proofs.Readings.{Reads, failing_unless, reads-by}
-use Rattle.command_edges.proofs.Rows.{held, value_row}
-
-pub simple-format : is_simple_and_free format_app ≡ true
-unfolding clap_on_literals
-simple-format = refl
+use Rattle.command_edges.proofs.Rows.{held, subscribers_held, value_row}
 
 -- what a parse reads of it, built
 abbrev format_shape : Shape
 format_shape = (built format_app).top
-
-abbrev after_one : Text → Held
-after_one s = held [] (codes "subscribers") (s ∷ [])
 
 abbrev after_two : Text → Text → Held
 after_two s c = held (value_row (codes "subscribers") s ∷ []) (codes "calls") (c ∷ [])
@@ -39,11 +31,11 @@ abbrev after_four : Text → Text → Text → Text → Held
 after_four s c n k =
     held (value_row (codes "subscribers") s ∷ value_row (codes "calls") c ∷ value_row (codes "rings") n ∷ []) (codes "cells") (k ∷ [])
 
-step-one : (a : ℕ) (s : Text) → (a == 45) ≡ false → walked format_shape.rules [] (at nothing_held idle 1) (a ∷ s) ≡ at (after_one (a ∷ s)) idle 2
+step-one : (a : ℕ) (s : Text) → (a == 45) ≡ false → walked format_shape.rules [] (at nothing_held idle 1) (a ∷ s) ≡ at (subscribers_held (a ∷ s)) idle 2
 step-one a s e = walked-idle format_shape.rules nothing_held 1 a s e
 
-step-two : (s : Text) (b : ℕ) (c : Text) → (b == 45) ≡ false → walked format_shape.rules [] (at (after_one s) idle 2) (b ∷ c) ≡ at (after_two s (b ∷ c)) idle 3
-step-two s b c e = walked-idle format_shape.rules (after_one s) 2 b c e
+step-two : (s : Text) (b : ℕ) (c : Text) → (b == 45) ≡ false → walked format_shape.rules [] (at (subscribers_held s) idle 2) (b ∷ c) ≡ at (after_two s (b ∷ c)) idle 3
+step-two s b c e = walked-idle format_shape.rules (subscribers_held s) 2 b c e
 
 step-three : (s c : Text) (d : ℕ) (n : Text) → (d == 45) ≡ false → walked format_shape.rules [] (at (after_two s c) idle 3) (d ∷ n) ≡ at (after_three s c (d ∷ n)) idle 4
 step-three s c d n e = walked-idle format_shape.rules (after_two s c) 3 d n e
@@ -66,7 +58,7 @@ fault-walk : (a : ℕ) (s : Text) (b : ℕ) (c : Text) (d : ℕ) (n : Text) (f :
     → (a == 45) ≡ false → (b == 45) ≡ false → (d == 45) ≡ false → (f == 45) ≡ false
     → walk_fault format_shape [] (at nothing_held idle 1) ((a ∷ s) ∷ (b ∷ c) ∷ (d ∷ n) ∷ (f ∷ k) ∷ [])
     ≡ or_else (step_fault format_shape 1 nothing_held value)
-    (or_else (step_fault format_shape 2 (after_one (a ∷ s)) value)
+    (or_else (step_fault format_shape 2 (subscribers_held (a ∷ s)) value)
     (or_else (step_fault format_shape 3 (after_two (a ∷ s) (b ∷ c)) value)
     (or_else (step_fault format_shape 4 (after_three (a ∷ s) (b ∷ c) (d ∷ n)) value) [])))
 unfolding walk_fault
@@ -74,7 +66,7 @@ fault-walk a s b c d n f k na nb nd nf =
     rw (
       fault-idle format_shape nothing_held 1 a s na,
       step-one a s na,
-      fault-idle format_shape (after_one (a ∷ s)) 2 b c nb,
+      fault-idle format_shape (subscribers_held (a ∷ s)) 2 b c nb,
       step-two (a ∷ s) b c nb,
       fault-idle format_shape (after_two (a ∷ s) (b ∷ c)) 3 d n nd,
       step-three (a ∷ s) (b ∷ c) d n nd,

@@ -15,7 +15,7 @@ use Rattle.command_edges.specs.Clap.{fresh_app, fresh_in, fresh_with, has_fresh_
 use Rattle.command_edges.proofs.NumberWords.{both, first-digit, word_number-parsed}
 use Rattle.command_edges.proofs.Plain.{at, fault-idle, first-of-name, walked-idle}
 use Rattle.command_edges.proofs.Readings.{Reads, failing_unless, reads-by}
-use Rattle.command_edges.proofs.Rows.{held, value_row}
+use Rattle.command_edges.proofs.Rows.{held, subscribers_held, value_row}
 
 pub simple-fresh : is_simple_and_free fresh_app ≡ true
 unfolding clap_on_literals
@@ -25,17 +25,14 @@ simple-fresh = refl
 abbrev fresh_shape : Shape
 fresh_shape = (built fresh_app).top
 
-abbrev after_one : Text → Held
-after_one s = held [] (codes "subscribers") (s ∷ [])
-
 abbrev after_two : Text → Text → Held
 after_two s f = held (value_row (codes "subscribers") s ∷ []) (codes "file") (f ∷ [])
 
-step-one : (a : ℕ) (s : Text) → (a == 45) ≡ false → walked fresh_shape.rules [] (at nothing_held idle 1) (a ∷ s) ≡ at (after_one (a ∷ s)) idle 2
+step-one : (a : ℕ) (s : Text) → (a == 45) ≡ false → walked fresh_shape.rules [] (at nothing_held idle 1) (a ∷ s) ≡ at (subscribers_held (a ∷ s)) idle 2
 step-one a s e = walked-idle fresh_shape.rules nothing_held 1 a s e
 
-step-two : (s : Text) (b : ℕ) (f : Text) → (b == 45) ≡ false → walked fresh_shape.rules [] (at (after_one s) idle 2) (b ∷ f) ≡ at (after_two s (b ∷ f)) idle 3
-step-two s b f e = walked-idle fresh_shape.rules (after_one s) 2 b f e
+step-two : (s : Text) (b : ℕ) (f : Text) → (b == 45) ≡ false → walked fresh_shape.rules [] (at (subscribers_held s) idle 2) (b ∷ f) ≡ at (after_two s (b ∷ f)) idle 3
+step-two s b f e = walked-idle fresh_shape.rules (subscribers_held s) 2 b f e
 
 abbrev fresh_rows : Text → Text → List Row
 fresh_rows s f = value_row (codes "subscribers") s ∷ value_row (codes "file") f ∷ []
@@ -47,10 +44,10 @@ matches_of-fresh name a s b f na nb = rw (step-one a s na, step-two (a ∷ s) b 
 
 fault-walk : (a : ℕ) (s : Text) (b : ℕ) (f : Text) → (a == 45) ≡ false → (b == 45) ≡ false
     → walk_fault fresh_shape [] (at nothing_held idle 1) ((a ∷ s) ∷ (b ∷ f) ∷ [])
-    ≡ or_else (step_fault fresh_shape 1 nothing_held value) (or_else (step_fault fresh_shape 2 (after_one (a ∷ s)) value) [])
+    ≡ or_else (step_fault fresh_shape 1 nothing_held value) (or_else (step_fault fresh_shape 2 (subscribers_held (a ∷ s)) value) [])
 unfolding walk_fault
 fault-walk a s b f na nb =
-    rw (fault-idle fresh_shape nothing_held 1 a s na, step-one a s na, fault-idle fresh_shape (after_one (a ∷ s)) 2 b f nb) refl
+    rw (fault-idle fresh_shape nothing_held 1 a s na, step-one a s na, fault-idle fresh_shape (subscribers_held (a ∷ s)) 2 b f nb) refl
 
 -- it fails only where the number doesn't pass
 fault_of-fresh : (name : Text) (a : ℕ) (s : Text) (b : ℕ) (f : Text) → (a == 45) ≡ false → (b == 45) ≡ false

@@ -4,6 +4,7 @@ pub mod Order
 pub mod Prints
 pub mod Results
 pub mod Told
+pub mod Wanted
 pub mod Zips
 pub mod Plain
 pub mod Rows
@@ -11,8 +12,7 @@ pub mod Arguments
 pub mod NumberWords
 pub mod Readings
 pub mod FormatWords
-pub mod DriveWords
-pub mod LocateWords
+pub mod ThreeNumbers
 pub mod FreshWords
 pub mod RunWalk
 pub mod RunWords

@@ -11,7 +11,7 @@ use Rattle.dude_base.specs.declared.limits.TheConstants.{MAX_RINGS}
 use Rattle.tatp_text.specs.Number.{is_decimal}
 use Rattle.command_edges.specs.declared.command.Command.{Command}
 use Rattle.command_edges.specs.declared.command.Command.TheVariants as command
-use Rattle.command_edges.specs.Command.{Meaning, FreshRun, FormatImage, RunFiles, StreamFiles, RunArguments, RecoverImage, DumpTables, LocateRange, DriveLoad, AuditRun, ShipFiles, FollowFiles, IsBetween, IsInLimits, alone, are_file_names, audit_of, drive_of, drive_with, follow_of, format_of, format_with, fresh_of, is_file_name, locate_of, locate_with, meaning_of_command, optional_number, run_arguments, run_of, run_with, run_words, ship_of, stream_of, word_number}
+use Rattle.command_edges.specs.Command.{Meaning, FreshRun, FormatImage, RunFiles, StreamFiles, RunArguments, RecoverImage, DumpTables, LocateRange, DriveLoad, AuditRun, ShipFiles, FollowFiles, IsBetween, IsInLimits, Limits, alone, are_file_names, audit_of, drive_of, follow_of, format_of, format_with, fresh_of, is_file_name, locate_of, meaning_of_command, of_three, optional_number, run_arguments, run_of, run_with, run_words, ship_of, stream_of, with_three, word_number}
 
 -- `IsInLimits`, of a meaning
 abbrev pub IsLawful : Meaning → Type 0
@@ -124,42 +124,40 @@ run-lawful words = mapped-lawful (λ given. RunFiles given.frames given.locks gi
 pub stream-lawful : (words : List (List ℕ)) → AreLawful (stream_of words)
 stream-lawful words = mapped-lawful (λ given. StreamFiles given.frames given.locks given.files) (run_arguments words) (λ x h. h) (arguments-lawful words)
 
-drive-with : (s c n : Option ℕ) → IfSome s (IsBetween 0 (2 ^ 64 - 1)) → IfSome c (IsBetween 0 99_999) → IfSome n (IsBetween 1 MAX_RINGS)
-    → AreLawful (drive_with s c n)
-drive-with (Some s) (Some c) (Some n) p q r =
-    let below = p.1 in
-    (omega arith, q.1, r)
-drive-with None c n p q r = tt
-drive-with (Some s) None n p q r = tt
-drive-with (Some s) (Some c) None p q r = tt
+-- three numbers in their limits make what is lawful
+module _ (made : ℕ → ℕ → ℕ → Meaning) (p q r : Limits)
+    (lawful-made : (x y z : ℕ) → IsBetween p.0 p.1 x → IsBetween q.0 q.1 y → IsBetween r.0 r.1 z → IsLawful (made x y z)) where
+  three-with : (s c n : Option ℕ) → IfSome s (IsBetween p.0 p.1) → IfSome c (IsBetween q.0 q.1) → IfSome n (IsBetween r.0 r.1)
+      → AreLawful (with_three made s c n)
+  three-with (Some s) (Some c) (Some n) first second third = lawful-made s c n first second third
+  three-with None c n first second third = tt
+  three-with (Some s) None n first second third = tt
+  three-with (Some s) (Some c) None first second third = tt
+
+  three-lawful : (words : List (List ℕ)) → AreLawful (of_three made p q r words)
+  three-lawful [] = tt
+  three-lawful (s ∷ []) = tt
+  three-lawful (s ∷ c ∷ []) = tt
+  three-lawful (s ∷ c ∷ n ∷ []) =
+      three-with (word_number p.0 p.1 s) (word_number q.0 q.1 c) (word_number r.0 r.1 n)
+      (word-between p.0 p.1 s) (word-between q.0 q.1 c) (word-between r.0 r.1 n)
+  three-lawful (s ∷ c ∷ n ∷ x ∷ more) = tt
+
+-- a number up to one below a limit
+below : (n least greatest limit : ℕ) → greatest < limit → IsBetween least greatest n → n < limit
+below n least greatest limit fits within =
+    let most = within.1 in
+    omega arith
 
 pub drive-lawful : (words : List (List ℕ)) → AreLawful (drive_of words)
-drive-lawful [] = tt
-drive-lawful (s ∷ []) = tt
-drive-lawful (s ∷ c ∷ []) = tt
-drive-lawful (s ∷ c ∷ n ∷ []) =
-    drive-with (word_number 0 (2 ^ 64 - 1) s) (word_number 0 99_999 c) (word_number 1 MAX_RINGS n)
-    (word-between 0 (2 ^ 64 - 1) s) (word-between 0 99_999 c) (word-between 1 MAX_RINGS n)
-drive-lawful (s ∷ c ∷ n ∷ x ∷ more) = tt
-
-locate-with : (l h k : Option ℕ) → IfSome l (IsBetween 0 4_294_967_295) → IfSome h (IsBetween 0 4_294_967_295) → IfSome k (IsBetween 1 10_000)
-    → AreLawful (locate_with l h k)
-locate-with (Some l) (Some h) (Some k) p q r =
-    let low = p.1 in
-    let high = q.1 in
-    (omega arith, omega arith, r)
-locate-with None h k p q r = tt
-locate-with (Some l) None k p q r = tt
-locate-with (Some l) (Some h) None p q r = tt
+drive-lawful words =
+    three-lawful DriveLoad (0, 2 ^ 64 - 1) (0, 99_999) (1, MAX_RINGS)
+    (λ seed count files p q r. (below seed 0 (2 ^ 64 - 1) (2 ^ 64) (omega arith) p, q.1, r)) words
 
 pub locate-lawful : (words : List (List ℕ)) → AreLawful (locate_of words)
-locate-lawful [] = tt
-locate-lawful (l ∷ []) = tt
-locate-lawful (l ∷ h ∷ []) = tt
-locate-lawful (l ∷ h ∷ k ∷ []) =
-    locate-with (word_number 0 4_294_967_295 l) (word_number 0 4_294_967_295 h) (word_number 1 10_000 k)
-    (word-between 0 4_294_967_295 l) (word-between 0 4_294_967_295 h) (word-between 1 10_000 k)
-locate-lawful (l ∷ h ∷ k ∷ x ∷ more) = tt
+locate-lawful words =
+    three-lawful LocateRange (0, 4_294_967_295) (0, 4_294_967_295) (1, 10_000)
+    (λ low high limit p q r. (below low 0 4_294_967_295 (2 ^ 32) (omega arith) p, below high 0 4_294_967_295 (2 ^ 32) (omega arith) q, r)) words
 
 none-lawful : (b : Bool) (x : Option Meaning) → AreLawful (if b && false then x else None)
 none-lawful true x = tt

@@ -1,5 +1,5 @@
 -- Files that are read one behind another.
-use Rattle.std.proofs.Common.{◌≡◌, ℕ, ◌+◌, ◌≤◌, true, Option, Some, None, List, [], ◌∷◌, ◌++◌, length, refl, sym, ◌∙◌, ap, inl, inr, arith, append-nil, append_assoc, length-append}
+use Rattle.std.proofs.Common.{◌≡◌, ℕ, ◌+◌, ◌≤◌, Bool, true, Option, Some, None, List, [], ◌∷◌, ◌++◌, length, refl, sym, ◌∙◌, ap, subst, inl, inr, arith, append-nil, append_assoc, length-append}
 use Rattle.std.specs.Prelude.{⊤, Result, Ok, Err, IfErr, IsErrAnd, flat_map}
 use Rattle.std.specs.Result.{result_err}
 use Rattle.std.specs.List.{AllZip}
@@ -8,7 +8,7 @@ use Rattle.std.proofs.lemmas.List.Concat.{flat_map-append}
 use Rattle.dude_io.specs.declared.file_text.FileText.{FileText}
 use Rattle.dude_io.specs.declared.file_fault.FileFault.TheVariants.{Failed, NoMemory}
 use Rattle.dude_io.specs.Files.{FilesSight, FilesStay, ReadMade, ListsReads}
-use Rattle.dude_io.specs.ReadsOfFile.{ReadsOnce}
+use Rattle.dude_io.specs.ReadsOfFile.{ReadsOfFile, ReadsOnce}
 use Rattle.dude_io.proofs.ReadLaws.{files_stay, files_stay-then, no_reads, reads-then, few_reads}
 use Rattle.command_edges.specs.declared.fault.Fault.{Fault}
 use Rattle.command_edges.specs.declared.fault.Fault.TheVariants.{File, Memory}
@@ -95,21 +95,27 @@ all_in_order files {s} {t} before = record {
   few = few_all s files files before.each [] (sym (append-nil files)) before.each_whole;
 }
 
--- one of them couldn't be read
-pub unread_in_order : (files whole : List CommandFile) (file : CommandFile) (later : List CommandFile) (number : ℕ) {s t u : FilesSight} → files ≡ whole ++ file ∷ later → number ≡ length whole + 1
-    → ReadWhole whole s t → FilesStay t u → ReadsOnce (file_limit file) file.name (Err Failed) t u → ReadsInOrder files (Some (File number)) s u
-unread_in_order files whole file later number {s} {t} {u} split counted before stays next = record {
+-- the reading ended with reads of one of them
+ended_in_order : (fault : Fault) {failed : Bool} (files whole : List CommandFile) (file : CommandFile) (later : List CommandFile) (last : List ReadMade) {s t u : FilesSight} → files ≡ whole ++ file ∷ later
+    → ReadWhole whole s t → FilesStay t u → ReadsOfFile (file_limit file) file.name failed last → ListsReads last t u → EndsReading (Some fault) whole (file ∷ later) last → ReadsInOrder files (Some fault) s u
+ended_in_order fault files whole file later last {s} {t} {u} split before stays of_file made ended = record {
   stays = files_stay-then before.stays stays;
   whole = whole;
   left = file ∷ later;
   split = split;
   each = before.each;
   each_whole = before.each_whole;
-  last = next.0;
-  ended = (counted, next.1);
-  made = reads-then (joined before.each) next.0 s t u before.made next.2;
-  few = few_both files whole file later (joined before.each) next.0 split (few_whole s whole before.each before.each_whole) (few_reads next.1);
+  last = last;
+  ended = ended;
+  made = reads-then (joined before.each) last s t u before.made made;
+  few = few_both files whole file later (joined before.each) last split (few_whole s whole before.each before.each_whole) (few_reads of_file);
 }
+
+-- it couldn't be read
+pub unread_in_order : (files whole : List CommandFile) (file : CommandFile) (later : List CommandFile) (number : ℕ) {s t u : FilesSight} → files ≡ whole ++ file ∷ later → number ≡ length whole + 1
+    → ReadWhole whole s t → FilesStay t u → ReadsOnce (file_limit file) file.name (Err Failed) t u → ReadsInOrder files (Some (File number)) s u
+unread_in_order files whole file later number split counted before stays next =
+    ended_in_order (File number) files whole file later next.0 split before stays next.1 next.2 (counted, next.1)
 
 -- its last read is the last one of all
 pub is_unread : (file : CommandFile) (t u : FilesSight) → ReadsOnce (file_limit file) file.name (Err Failed) t u → IsUnread u file
@@ -123,18 +129,8 @@ is_unread file t u next told =
 -- there was no memory for one of them
 pub dropped_in_order : (files whole : List CommandFile) (file : CommandFile) (later : List CommandFile) {s t u : FilesSight} → files ≡ whole ++ file ∷ later
     → ReadWhole whole s t → FilesStay t u → ReadsOnce (file_limit file) file.name (Err NoMemory) t u → ReadsInOrder files (Some Memory) s u
-dropped_in_order files whole file later {s} {t} {u} split before stays next = record {
-  stays = files_stay-then before.stays stays;
-  whole = whole;
-  left = file ∷ later;
-  split = split;
-  each = before.each;
-  each_whole = before.each_whole;
-  last = next.0;
-  ended = inr next.1;
-  made = reads-then (joined before.each) next.0 s t u before.made next.2;
-  few = few_both files whole file later (joined before.each) next.0 split (few_whole s whole before.each before.each_whole) (few_reads next.1);
-}
+dropped_in_order files whole file later split before stays next =
+    ended_in_order Memory files whole file later next.0 split before stays next.1 next.2 (inr next.1)
 
 -- there was no memory behind the first of them
 ends_no_memory : (whole left : List CommandFile) → EndsReading (Some Memory) whole left []
@@ -154,6 +150,15 @@ stopped_in_order files whole left {s} {t} split before = record {
   made = made_none before.each s t before.made;
   few = few_all s files whole before.each left split before.each_whole;
 }
+
+-- a result whose error is want of memory
+pub is_memory : {X : Type 0} (r : Result X Fault) → IsErrAnd r (λ fault. fault ≡ Memory) → result_err r ≡ Some Memory
+is_memory (Ok x) is = absurd is
+is_memory (Err fault) is = ap (λ (f : Fault). Some f) is
+
+-- there was no memory before the first of them
+pub unbegun : {X : Type 0} (files : List CommandFile) (s : FilesSight) (r : Result X Fault) → IsErrAnd r (λ fault. fault ≡ Memory) → ReadsInOrder files (result_err r) s s
+unbegun files s r is = subst (λ (fault : Option Fault). ReadsInOrder files fault s s) (sym (is_memory r is)) (stopped_in_order files [] files refl (whole_none s))
 
 -- the fault isn't that a file couldn't be read
 abbrev pub IsNoReadFault : Option Fault → Type 0
@@ -181,11 +186,6 @@ then_fault fault other reads = record {
   made = reads.made;
   few = reads.few;
 }
-
--- a result whose error is want of memory
-pub is_memory : {X : Type 0} (r : Result X Fault) → IsErrAnd r (λ fault. fault ≡ Memory) → result_err r ≡ Some Memory
-is_memory (Ok x) is = absurd is
-is_memory (Err fault) is = ap (λ (f : Fault). Some f) is
 
 -- to parse texts is to read no file
 pub parsed_reads : {X : Type 0} (before : ℕ) (texts : List FileText) (r : Result X Fault) → IfErr r (IsFirstTextFault before texts) → IsNoReadFault (result_err r)

@@ -1,9 +1,10 @@
 -- How `clap` reads a word that doesn't begin with `-`.
-use Rattle.std.proofs.Common.{ℕ, ◌≡◌, Bool, true, false, List, [], ◌∷◌, None, refl}
+use Rattle.std.proofs.Common.{ℕ, ◌≡◌, ◌+◌, Bool, true, false, List, [], ◌∷◌, None, refl}
 use Rattle.std.specs.Prelude.{◌==◌, not}
 use Rattle.clap.specs.Lexer.{long_of, short_of}
 use Rattle.clap.specs.Walk.{Held, Rule, Text, Waiting, Walk, arg_by_id, arg_by_index, idle, option, option_word, positional, to_positional, value, walked}
-use Rattle.clap.specs.Faults.{step_fault, turn_fault}
+use Rattle.clap.specs.Faults.{step_fault, turn_fault, walk_fault}
+use Rattle.clap.specs.Kinds.{or_else}
 use Rattle.clap.specs.Simple.{Shape}
 use Rattle.command_edges.specs.Command.{is_file_name}
 
@@ -39,6 +40,19 @@ walked-option c h id position d ds e = rw (e, short-none d ds e) refl
 pub fault-idle : (s : Shape) (h : Held) (position d : ℕ) (ds : Text) → (d == 45) ≡ false
     → turn_fault s [] (at h idle position) (d ∷ ds) ≡ step_fault s position h value
 fault-idle s h position d ds e = rw (e, short-none d ds e) refl
+
+-- the walk fails at it, or behind it
+pub fault-turn : (s : Shape) (h next : Held) (position d : ℕ) (ds : Text) (rest : List Text) → (d == 45) ≡ false
+    → walked s.rules [] (at h idle position) (d ∷ ds) ≡ at next idle (position + 1)
+    → walk_fault s [] (at h idle position) ((d ∷ ds) ∷ rest)
+    ≡ or_else (step_fault s position h value) (walk_fault s [] (at next idle (position + 1)) rest)
+unfolding walk_fault
+fault-turn s h next position d ds rest e turned = rw (fault-idle s h position d ds e, turned) refl
+
+-- nothing is left that may fail
+pub fault-end : (s : Shape) (walk : Walk) → walk_fault s [] walk [] ≡ []
+unfolding walk_fault
+fault-end s walk = refl
 
 pub fault-positional : (s : Shape) (h : Held) (position d : ℕ) (ds : Text) → (d == 45) ≡ false
     → turn_fault s [] (at h positional position) (d ∷ ds) ≡ step_fault s position h value

@@ -11,7 +11,7 @@ use Rattle.clap.specs.Words.{fault_of, found_of, matches_of, rows_of}
 use Rattle.clap.specs.declared.builder.value_parser.ValueParser.TheVariants as vp
 use Rattle.clap.specs.declared.parser.matches.ArgMatches.{ArgMatches}
 use Rattle.tatp_text.specs.Number.{is_decimal}
-use Rattle.command_edges.specs.Command.{Meaning, FreshRun, RunArguments, RunWords, are_file_names, drive_with, format_with, is_file_name, locate_with}
+use Rattle.command_edges.specs.Command.{Meaning, DriveLoad, FreshRun, Limits, LocateRange, RunArguments, RunWords, are_file_names, format_with, is_file_name, with_three}
 
 -- ---- the arguments
 
@@ -54,21 +54,20 @@ abbrev pub run_app : App
 run_app =
     with_rule (with_rule (with_rule (new_app (codes "run")) (option_rule (codes "frames") 1 32_768)) (option_rule (codes "locks") 1 65_536)) files_rule
 
+-- three numbers, by their names, each in its limits
+abbrev pub three_app : Text → (i j k : Text) → (p q r : Limits) → App
+three_app name i j k p q r =
+    with_rule (with_rule (with_rule (new_app name) (number_rule i p.0 p.1)) (number_rule j q.0 q.1)) (number_rule k r.0 r.1)
+
 -- `drive`: a seed, how many requests each file has, and how many files
 abbrev pub drive_app : App
 drive_app =
-    with_rule (with_rule (with_rule (new_app (codes "drive"))
-    (number_rule (codes "seed") 0 (2 ^ 64 - 1)))
-    (number_rule (codes "count") 0 99_999))
-    (number_rule (codes "files") 1 MAX_RINGS)
+    three_app (codes "drive") (codes "seed") (codes "count") (codes "files") (0, 2 ^ 64 - 1) (0, 99_999) (1, MAX_RINGS)
 
 -- `locate`: the ends of a range, and how many lines at most
 abbrev pub locate_app : App
 locate_app =
-    with_rule (with_rule (with_rule (new_app (codes "locate"))
-    (number_rule (codes "low") 0 4_294_967_295))
-    (number_rule (codes "high") 0 4_294_967_295))
-    (number_rule (codes "limit") 1 10_000)
+    three_app (codes "locate") (codes "low") (codes "high") (codes "limit") (0, 4_294_967_295) (0, 4_294_967_295) (1, 10_000)
 
 -- ---- the form of the words that `clap` is given: the program's name, then these
 
@@ -92,15 +91,10 @@ has_format_form (name ∷ subscribers ∷ calls ∷ rings ∷ cells ∷ []) =
     is_number subscribers && is_number calls && is_number rings && is_number cells
 has_format_form _ = false
 
--- the words of `drive`: three numbers
-abbrev pub has_drive_form : List Text → Bool
-has_drive_form (name ∷ seed ∷ count ∷ files ∷ []) = is_number seed && is_number count && is_number files
-has_drive_form _ = false
-
--- the words of `locate`: three numbers
-abbrev pub has_locate_form : List Text → Bool
-has_locate_form (name ∷ low ∷ high ∷ limit ∷ []) = is_number low && is_number high && is_number limit
-has_locate_form _ = false
+-- the words of `drive` and `locate`: three numbers
+abbrev pub has_three_form : List Text → Bool
+has_three_form (name ∷ first ∷ second ∷ third ∷ []) = is_number first && is_number second && is_number third
+has_three_form _ = false
 
 -- the words of `run` and `stream`: a number behind each option that is there, and one or more file names
 abbrev pub has_run_form : RunWords → Bool
@@ -146,10 +140,14 @@ format_in indexed rows =
 abbrev pub run_in : List Text → List Row → Option RunArguments
 run_in files rows = Some (record { frames = number_of (codes "frames") rows; locks = number_of (codes "locks") rows; files = files })
 
+-- what the matches of three numbers mean, by their names
+abbrev pub three_in : (ℕ → ℕ → ℕ → Meaning) → (i j k : Text) → List Row → Option Meaning
+three_in made i j k rows = with_three made (number_of i rows) (number_of j rows) (number_of k rows)
+
 -- what the matches of `drive` mean
 abbrev pub drive_in : List Row → Option Meaning
-drive_in rows = drive_with (number_of (codes "seed") rows) (number_of (codes "count") rows) (number_of (codes "files") rows)
+drive_in rows = three_in DriveLoad (codes "seed") (codes "count") (codes "files") rows
 
 -- what the matches of `locate` mean
 abbrev pub locate_in : List Row → Option Meaning
-locate_in rows = locate_with (number_of (codes "low") rows) (number_of (codes "high") rows) (number_of (codes "limit") rows)
+locate_in rows = three_in LocateRange (codes "low") (codes "high") (codes "limit") rows

@@ -133,27 +133,28 @@ abbrev pub alone : Meaning → List (List ℕ) → Option Meaning
 alone meaning [] = Some meaning
 alone meaning (word ∷ more) = None
 
--- a range and a limit, where each number is there
-abbrev pub locate_with : (low high limit : Option ℕ) → Option Meaning
-locate_with (Some low) (Some high) (Some limit) = Some (LocateRange low high limit)
-locate_with _ _ _ = None
+-- a least and a greatest number
+abbrev pub Limits : Type 0
+Limits = ℕ × ℕ
+
+-- what three numbers make, where each is there
+abbrev pub with_three : (ℕ → ℕ → ℕ → Meaning) → (first second third : Option ℕ) → Option Meaning
+with_three made (Some first) (Some second) (Some third) = Some (made first second third)
+with_three made _ _ _ = None
+
+-- three words that are numbers, each in its limits
+abbrev pub of_three : (ℕ → ℕ → ℕ → Meaning) → (p q r : Limits) → List (List ℕ) → Option Meaning
+of_three made p q r (first ∷ second ∷ third ∷ []) =
+    with_three made (word_number p.0 p.1 first) (word_number q.0 q.1 second) (word_number r.0 r.1 third)
+of_three made p q r _ = None
 
 -- `locate LOW HIGH LIMIT`
 abbrev pub locate_of : List (List ℕ) → Option Meaning
-locate_of (low ∷ high ∷ limit ∷ []) =
-    locate_with (word_number 0 4_294_967_295 low) (word_number 0 4_294_967_295 high) (word_number 1 10_000 limit)
-locate_of _ = None
-
--- a load's numbers, where each is there
-abbrev pub drive_with : (seed count files : Option ℕ) → Option Meaning
-drive_with (Some seed) (Some count) (Some files) = Some (DriveLoad seed count files)
-drive_with _ _ _ = None
+locate_of words = of_three LocateRange (0, 4_294_967_295) (0, 4_294_967_295) (1, 10_000) words
 
 -- `drive SEED COUNT FILES`
 abbrev pub drive_of : List (List ℕ) → Option Meaning
-drive_of (seed ∷ count ∷ files ∷ []) =
-    drive_with (word_number 0 (2 ^ 64 - 1) seed) (word_number 0 99_999 count) (word_number 1 MAX_RINGS files)
-drive_of _ = None
+drive_of words = of_three DriveLoad (0, 2 ^ 64 - 1) (0, 99_999) (1, MAX_RINGS) words
 
 -- `audit PRINTED FILE..`
 abbrev pub audit_of : List (List ℕ) → Option Meaning

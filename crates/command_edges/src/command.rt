@@ -1,6 +1,6 @@
 //! What the command words mean.
 
-ghost use Rattle.std.specs.Prelude.{map, IfOk, IfSome};
+ghost use Rattle.std.specs.Prelude.{◌∷◌, drop, map, IfOk, IfSome};
 ghost use Rattle.std.specs.Rc.{rc_str_bytes};
 ghost use Rattle.command_edges.specs.Command.{HasMeaning, IsAlone, IsInLimits, meaning_of};
 
@@ -83,7 +83,6 @@ pub enum Command<'a> {
 }
 
 /// The command that the words mean; none where they are refused.
-#[tactic(auto, using(crate::proofs::Limits::lawful))]
 pub fn command_of(alloc: Global, words: &[RcStr]) -> Result<Option<Command<'_>>, AllocError>
     ensures meaning { IfOk result (HasMeaning (meaning_of (map rc_str_bytes words.now))) }
     ensures limits { IfOk result (λ command. IfSome command IsInLimits) }
@@ -91,7 +90,21 @@ pub fn command_of(alloc: Global, words: &[RcStr]) -> Result<Option<Command<'_>>,
     let Some(name) = words.first() else {
         return Ok(None);
     };
-    match name.as_str() {
+    command_named(alloc, name.as_str(), words)
+}
+
+// The command of this name that the words behind the first one mean.
+#[tactic(auto, using(crate::proofs::Limits::lawful))]
+fn command_named<'a>(
+    alloc: Global,
+    name: &str,
+    words: &'a [RcStr],
+) -> Result<Option<Command<'a>>, AllocError>
+    ensures meaning { IfOk result
+        (HasMeaning (meaning_of (name.now ∷ drop 1 (map rc_str_bytes words.now)))) }
+    ensures limits { IfOk result (λ command. IfSome command IsInLimits) }
+{
+    match name {
         "fresh" => fresh_of(alloc, words),
         "format" => format_of(alloc, words, false),
         "xformat" => format_of(alloc, words, true),

@@ -3,7 +3,7 @@
 ghost use Rattle.std.specs.Prelude.{◌≡◌, true, map, IfOk};
 ghost use Rattle.std.specs.Rc.{rc_str_bytes};
 ghost use Rattle.command_edges.specs.Command.{HasMeaning, behind_name, drive_of};
-ghost use Rattle.command_edges.specs.Clap.{drive_in, has_drive_form, matched_rows};
+ghost use Rattle.command_edges.specs.Clap.{drive_in, has_three_form, matched_rows};
 
 use crate::command::Command;
 use crate::form::is_number;
@@ -31,7 +31,7 @@ pub fn drive_of(alloc: Global, words: &[RcStr]) -> Result<Option<Command<'_>>, A
 
 // The same, by `clap`, of words that have the form.
 fn read_drive(alloc: Global, words: &[RcStr]) -> Result<Option<Command<'_>>, AllocError>
-    requires { has_drive_form (map rc_str_bytes words.now) ≡ true }
+    requires { has_three_form (map rc_str_bytes words.now) ≡ true }
     ensures { IfOk result (HasMeaning (behind_name drive_of (map rc_str_bytes words.now))) }
 {
     // A load has at most a file for each ring.

@@ -2,8 +2,7 @@
 
 ghost use Rattle.std.specs.Prelude.{◌≡◌, ◌++◌, decimal, OnOk, OnErr};
 ghost use Rattle.std.specs.Fmt.{WritesOnOk};
-ghost use Rattle.command_edges.specs.Fault.{fault_line, fault_words};
-ghost use Rattle.command_edges.specs.declared.fault.Fault.TheVariants.{Text};
+ghost use Rattle.command_edges.specs.Fault.{fault_line};
 
 use std::alloc::{AllocError, AllocFailed};
 use std::fmt;
@@ -89,29 +88,19 @@ impl fmt::Display for Fault {
     fn fmt<W: fmt::Write>(&self, f: &mut fmt::Formatter<W>) -> fmt::Result {
         match *self {
             Fault::Usage => f.write_str("usage"),
-            Fault::File { file } => write_one(f, "file ", file),
-            Fault::Text { file, row, field } => write_place(f, file, row, field),
-            Fault::Small { has, needs } => write_two(f, "too small: has ", has, ", needs ", needs),
-            Fault::TooFew { rows, calls } => write_all(
-                f,
-                "too few calls: ",
-                rows,
-                " rows, ",
-                calls,
-                " calls",
-            ),
+            Fault::File { file } => write!(f, "file {file}"),
+            Fault::Text { file, row, field } => {
+                write!(f, "file {file} record {row} field {field}")
+            }
+            Fault::Small { has, needs } => write!(f, "too small: has {has}, needs {needs}"),
+            Fault::TooFew { rows, calls } => write!(f, "too few calls: {rows} rows, {calls} calls"),
             Fault::Unformatted => f.write_str("unformatted"),
-            Fault::Damaged { line } => write_one(f, "damaged line ", line),
-            Fault::NotDb { word } => write_one(f, "not a database, word ", word),
-            Fault::ManyFiles { files, rings } => write_all(
-                f,
-                "too many files: ",
-                files,
-                " files, ",
-                rings,
-                " rings",
-            ),
-            Fault::Frames { frames, pages } => write_two(f, "frames ", frames, ", pages ", pages),
+            Fault::Damaged { line } => write!(f, "damaged line {line}"),
+            Fault::NotDb { word } => write!(f, "not a database, word {word}"),
+            Fault::ManyFiles { files, rings } => {
+                write!(f, "too many files: {files} files, {rings} rings")
+            }
+            Fault::Frames { frames, pages } => write!(f, "frames {frames}, pages {pages}"),
             Fault::FewSubscribers { subscribers, files } => write_all(
                 f,
                 "too few subscribers: ",
@@ -120,45 +109,16 @@ impl fmt::Display for Fault {
                 files,
                 " files",
             ),
-            Fault::Numbers { number, requests } => write_all(
-                f,
-                "numbers: ",
-                number,
-                ", ",
-                requests,
-                " requests",
-            ),
+            Fault::Numbers { number, requests } => {
+                write!(f, "numbers: {number}, {requests} requests")
+            }
             Fault::Device => f.write_str("device"),
             Fault::Output => f.write_str("output"),
             Fault::Memory => f.write_str("memory"),
-            Fault::Audit { line } => write_one(f, "audit line ", line),
-            Fault::Strange { file, packet } => {
-                write_two(f, "strange packet ", packet, " of file ", file)
-            }
+            Fault::Audit { line } => write!(f, "audit line {line}"),
+            Fault::Strange { file, packet } => write!(f, "strange packet {packet} of file {file}"),
         }
     }
-}
-
-/// Writes a text and a number.
-fn write_one<W: fmt::Write>(f: &mut fmt::Formatter<W>, text: &str, number: u64) -> fmt::Result
-    ensures { WritesOnOk W.write_str_gives f.old result (text.now ++ decimal number) f.new }
-{
-    write!(f, "{text}{number}")
-}
-
-/// Writes two texts, each with a number behind it.
-fn write_two<W: fmt::Write>(
-    f: &mut fmt::Formatter<W>,
-    first: &str,
-    number: u64,
-    next: &str,
-    other: u64,
-) -> fmt::Result
-    ensures { WritesOnOk W.write_str_gives f.old result
-        (first.now ++ decimal number ++ next.now ++ decimal other) f.new }
-{
-    write_one(f, first, number)?;
-    write_one(f, next, other)
 }
 
 /// Writes two texts, each with a number behind it, and a last text.
@@ -173,21 +133,7 @@ fn write_all<W: fmt::Write>(
     ensures { WritesOnOk W.write_str_gives f.old result
         (first.now ++ decimal number ++ next.now ++ decimal other ++ last.now) f.new }
 {
-    write_two(f, first, number, next, other)?;
-    f.write_str(last)
-}
-
-/// Writes where a file's first bad field is.
-fn write_place<W: fmt::Write>(
-    f: &mut fmt::Formatter<W>,
-    file: u64,
-    row: u64,
-    field: u64,
-) -> fmt::Result
-    ensures { WritesOnOk W.write_str_gives f.old result (fault_words (Text file row field)) f.new }
-{
-    write_two(f, "file ", file, " record ", row)?;
-    write_one(f, " field ", field)
+    write!(f, "{first}{number}{next}{other}{last}")
 }
 
 impl From<AllocError> for Fault {

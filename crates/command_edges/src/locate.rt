@@ -3,7 +3,7 @@
 ghost use Rattle.std.specs.Prelude.{◌≡◌, true, map, IfOk};
 ghost use Rattle.std.specs.Rc.{rc_str_bytes};
 ghost use Rattle.command_edges.specs.Command.{HasMeaning, behind_name, locate_of};
-ghost use Rattle.command_edges.specs.Clap.{has_locate_form, locate_in, matched_rows};
+ghost use Rattle.command_edges.specs.Clap.{has_three_form, locate_in, matched_rows};
 
 use crate::command::Command;
 use crate::form::is_number;
@@ -33,7 +33,7 @@ pub fn locate_of(alloc: Global, words: &[RcStr]) -> Result<Option<Command<'_>>, 
 
 // The same, by `clap`, of words that have the form.
 fn read_locate(alloc: Global, words: &[RcStr]) -> Result<Option<Command<'_>>, AllocError>
-    requires { has_locate_form (map rc_str_bytes words.now) ≡ true }
+    requires { has_three_form (map rc_str_bytes words.now) ≡ true }
     ensures { IfOk result (HasMeaning (behind_name locate_of (map rc_str_bytes words.now))) }
 {
     let numbers = [

@@ -1,8 +1,8 @@
 use Rattle.std.proofs.Common.{◌∙◌, map}
 use Rattle.std.specs.Rc.{rc_str_bytes}
 use Rattle.command_edges.specs.Clap.{drive_app, drive_in}
-use Rattle.command_edges.proofs.DriveWords.{drive-reads}
 use Rattle.command_edges.proofs.Readings.{read-refused, read-taken}
+use Rattle.command_edges.proofs.ThreeNumbers.{drive-reads}
 use Rattle.command_edges.proofs.drive.read_drive.Goals as goal
 
 pub returns-in-Some : goal.returns-in-Some

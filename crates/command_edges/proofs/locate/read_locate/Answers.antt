@@ -1,8 +1,8 @@
 use Rattle.std.proofs.Common.{◌∙◌, map}
 use Rattle.std.specs.Rc.{rc_str_bytes}
 use Rattle.command_edges.specs.Clap.{locate_app, locate_in}
-use Rattle.command_edges.proofs.LocateWords.{locate-reads}
 use Rattle.command_edges.proofs.Readings.{read-refused, read-taken}
+use Rattle.command_edges.proofs.ThreeNumbers.{locate-reads}
 use Rattle.command_edges.proofs.locate.read_locate.Goals as goal
 
 pub returns-in-Some : goal.returns-in-Some

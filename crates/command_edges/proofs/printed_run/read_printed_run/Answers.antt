@@ -1,33 +1,25 @@
-use Rattle.std.proofs.Common.{◌≡◌, ◌∙◌, ◌++◌, ◌∷◌, Option, List, [], ap, drop, map, refl, subst, sym}
+use Rattle.std.proofs.Common.{[], ◌∙◌, ◌∷◌, drop, map, subst, sym}
 use Rattle.std.specs.Prelude.{All}
-use Rattle.std.specs.List.{AllZip}
 use Rattle.std.proofs.lemmas.List.Elements.{All-cons, All-nil}
 use Rattle.tatp_model.specs.Request.{IsInRange}
-use Rattle.command_edges.specs.declared.fault.Fault.{Fault}
-use Rattle.command_edges.specs.declared.file_wanted.FileWanted.{FileWanted}
 use Rattle.command_edges.specs.declared.file_kind.FileKind.TheVariants.{Printed}
-use Rattle.command_edges.specs.CommandFile.{CommandFile, audit_files, files_wanted, request_file, request_files}
+use Rattle.command_edges.specs.CommandFile.{CommandFile, audit_files, request_file, request_files}
 use Rattle.tatp_model.specs.Files.{requests_in}
 use Rattle.command_edges.specs.Files.{IsGoodFile, IsThere, OfFile}
-use Rattle.command_edges.specs.Reads.{ReadsInOrder}
 use Rattle.command_edges.specs.Texts.{HoldsRequests, IsTextOf}
-use Rattle.command_edges.proofs.Order.{is_memory, stopped_in_order, whole_none}
-use Rattle.command_edges.proofs.Told.{file_fault, file_is_there, none_missing, of_file}
+use Rattle.command_edges.proofs.Order.{unbegun}
+use Rattle.command_edges.proofs.Told.{file_fault, file_is_there, of_file}
+use Rattle.command_edges.proofs.Wanted.{audit_read, audit_there}
 use Rattle.command_edges.proofs.Zips.{AllZip-behind, AllZip-front, AllZip-seconds, AllZip-then, AllZip-unmapped, all_behind}
 use Rattle.command_edges.proofs.printed_run.read_printed_run.Goals as goal
 
 pub returns-in_err-push-clause-reads : goal.returns-in_err-push-clause-reads
 returns-in_err-push-clause-reads g c =
-    let s = g.F.Files.sight c.args.files.now in
-    let files = audit_files c.args.printed.now (map g.S.AsStr.text c.args.names.now) in
-    subst (λ (fault : Option Fault). ReadsInOrder files fault s s) (sym (is_memory c.from_residual.result c.from_residual.ensures.1)) (stopped_in_order files [] files refl (whole_none s))
+    unbegun (audit_files c.args.printed.now (map g.S.AsStr.text c.args.names.now)) (g.F.Files.sight c.args.files.now) c.from_residual.result c.from_residual.ensures.1
 
 pub returns-in_err-want_files-clause-reads : goal.returns-in_err-want_files-clause-reads
 returns-in_err-want_files-clause-reads g c =
-    let s = g.F.Files.sight c.args.files.now in
-    let files = audit_files c.args.printed.now (map g.S.AsStr.text c.args.names.now) in
-    subst (λ (fault : Option Fault). ReadsInOrder files fault s s) (sym (is_memory c.from_residual-in_err-want_files.result c.from_residual-in_err-want_files.ensures.1))
-    (stopped_in_order files [] files refl (whole_none s))
+    unbegun (audit_files c.args.printed.now (map g.S.AsStr.text c.args.names.now)) (g.F.Files.sight c.args.files.now) c.from_residual-in_err-want_files.result c.from_residual-in_err-want_files.ensures.1
 
 pub returns-in-Err-parse_texts-clause-cause : goal.returns-in-Err-parse_texts-clause-cause
 returns-in-Err-parse_texts-clause-cause g c =
@@ -35,9 +27,7 @@ returns-in-Err-parse_texts-clause-cause g c =
     let t = g.F.Files.sight c.read_texts.new.files in
     let names = map g.S.AsStr.text c.args.names.now in
     let printed : CommandFile = record { name = c.args.printed.now; kind = Printed } in
-    let same : files_wanted c.deref.result.now ≡ audit_files c.args.printed.now names =
-    ap files_wanted c.deref.ensures.value ∙ (c.in_ok-want_files.ensures ∙ ap (λ (l : List FileWanted). files_wanted l ++ request_files names) (c.in_ok-push.ensures.items ∙ ap (λ (l : List FileWanted). l ++ record { name = c.args.printed; kind = Printed } ∷ []) c.new-wanted.ensures.items)) in
-    let read : AllZip (IsTextOf s) (audit_files c.args.printed.now names) c.in-Ok.texts.items = rw same at c.in-Ok.ensures.read in
+    let read = audit_read s c.args.printed names c.in-Ok.texts.items c.deref.ensures.value c.in_ok-want_files.ensures c.in_ok-push.ensures.items c.new-wanted.ensures.items c.in-Ok.ensures.read in
     let first = AllZip-front (IsTextOf s) printed (request_files names) c.in-Ok.texts.items read in
     let there = λ (told : _). file_is_there s printed first.0 first.1 told in
     let fault = rw (c.deref-2.ensures.value, all_behind c.in-Ok.texts.items) at c.in-Err-parse_texts.ensures.cause in
@@ -46,21 +36,15 @@ returns-in-Err-parse_texts-clause-cause g c =
     (AllZip-behind (IsTextOf s) printed (request_files names) c.in-Ok.texts.items read) fault
 
 pub returns-in-Err-parse_texts-clause-missing : goal.returns-in-Err-parse_texts-clause-missing
-returns-in-Err-parse_texts-clause-missing g c =
-    let s = g.F.Files.sight c.args.files.now in
-    let names = map g.S.AsStr.text c.args.names.now in
-    let same : files_wanted c.deref.result.now ≡ audit_files c.args.printed.now names =
-    ap files_wanted c.deref.ensures.value ∙ (c.in_ok-want_files.ensures ∙ ap (λ (l : List FileWanted). files_wanted l ++ request_files names) (c.in_ok-push.ensures.items ∙ ap (λ (l : List FileWanted). l ++ record { name = c.args.printed; kind = Printed } ∷ []) c.new-wanted.ensures.items)) in
-    λ told missing. absurd (none_missing s (audit_files c.args.printed.now names) c.in-Ok.texts.items (rw same at c.in-Ok.ensures.read) told missing)
+returns-in-Err-parse_texts-clause-missing g c = λ told missing.
+    absurd (audit_there (g.F.Files.sight c.args.files.now) c.args.printed (map g.S.AsStr.text c.args.names.now) c.in-Ok.texts.items c.deref.ensures.value c.in_ok-want_files.ensures c.in_ok-push.ensures.items c.new-wanted.ensures.items c.in-Ok.ensures.read told missing)
 
 pub returns-clause-read : goal.returns-clause-read
 returns-clause-read g c =
     let s = g.F.Files.sight c.args.files.now in
     let names = map g.S.AsStr.text c.args.names.now in
     let printed : CommandFile = record { name = c.args.printed.now; kind = Printed } in
-    let same : files_wanted c.deref.result.now ≡ audit_files c.args.printed.now names =
-    ap files_wanted c.deref.ensures.value ∙ (c.in_ok-want_files.ensures ∙ ap (λ (l : List FileWanted). files_wanted l ++ request_files names) (c.in_ok-push.ensures.items ∙ ap (λ (l : List FileWanted). l ++ record { name = c.args.printed; kind = Printed } ∷ []) c.new-wanted.ensures.items)) in
-    let read : AllZip (IsTextOf s) (audit_files c.args.printed.now names) c.in-Ok.texts.items = rw same at c.in-Ok.ensures.read in
+    let read = audit_read s c.args.printed names c.in-Ok.texts.items c.deref.ensures.value c.in_ok-want_files.ensures c.in_ok-push.ensures.items c.new-wanted.ensures.items c.in-Ok.ensures.read in
     let first = AllZip-front (IsTextOf s) printed (request_files names) c.in-Ok.texts.items read in
     let parsed = rw (c.deref-2.ensures.value, all_behind c.in-Ok.texts.items) at c.in-Ok-parse_texts.ensures.parsed in
     record {
@@ -72,9 +56,5 @@ returns-clause-read g c =
     }
 
 pub returns-clause-missing : goal.returns-clause-missing
-returns-clause-missing g c =
-    let s = g.F.Files.sight c.args.files.now in
-    let names = map g.S.AsStr.text c.args.names.now in
-    let same : files_wanted c.deref.result.now ≡ audit_files c.args.printed.now names =
-    ap files_wanted c.deref.ensures.value ∙ (c.in_ok-want_files.ensures ∙ ap (λ (l : List FileWanted). files_wanted l ++ request_files names) (c.in_ok-push.ensures.items ∙ ap (λ (l : List FileWanted). l ++ record { name = c.args.printed; kind = Printed } ∷ []) c.new-wanted.ensures.items)) in
-    λ told missing. absurd (none_missing s (audit_files c.args.printed.now names) c.in-Ok.texts.items (rw same at c.in-Ok.ensures.read) told missing)
+returns-clause-missing g c = λ told missing.
+    absurd (audit_there (g.F.Files.sight c.args.files.now) c.args.printed (map g.S.AsStr.text c.args.names.now) c.in-Ok.texts.items c.deref.ensures.value c.in_ok-want_files.ensures c.in_ok-push.ensures.items c.new-wanted.ensures.items c.in-Ok.ensures.read told missing)
