@@ -37,7 +37,7 @@ use Rattle.dude_audit.specs.declared.verdict.Verdict.TheVariants.{Yes, No}
 use Rattle.dude_audit.proofs.Law.{law}
 use Rattle.dude_program.specs.World.{SinkStays, world_of}
 use Rattle.dude_program.specs.Audit.{IsRefusedRun, IsRunFound, RunRead}
-use Rattle.dude_program.specs.Judging.{IsAnswer}
+use Rattle.dude_program.specs.Judging.{IsAnswer, IsAnswerOn}
 use Rattle.dude_program.specs.Headline.{Headline, Printed as PrintedText, SaidYes, TookAll, TookPrefix}
 use Rattle.dude_program.specs.Causes.{Causes, HasCause, MustRefuse, RefusesOpening, StoppedByOpening, SucceedsIfGood, Untouched}
 use Rattle.dude_program.specs.Ending.{Ends}
@@ -66,7 +66,7 @@ module _ (printed : List ℕ) (names : List (List ℕ)) (f : FilesSight) (files 
   whole_run bytes is short = record { requests = files; read = read; text = bytes; short = short; of_file = λ visible. some_is (f.text printed) bytes (is visible) }
 
   -- at `Yes` the text is a printed run of the files
-  pub found_by : (text : FileText) → IsTextOf f (record { name = printed; kind = Printed }) text → All (All IsInRange) files → IsAnswer opening files text Yes
+  found_by : (text : FileText) → IsTextOf f (record { name = printed; kind = Printed }) text → All (All IsInRange) files → IsAnswer opening files text Yes
       → (found : IsRunFound printed names f opening) × All (All IsInRange) found.run.requests
   unfolding whole_run
   found_by (Whole bytes) is ranges answer = (record { run = whole_run bytes.items is.0 is.1; is = answer.0.0 refl }, ranges)
@@ -76,7 +76,7 @@ module _ (printed : List ℕ) (names : List (List ℕ)) (f : FilesSight) (files 
   same_line line is = cc
 
   -- at `No` it is wrong at this line, or too long
-  pub refused_by : (line : ℕ) (text : FileText) → IsTextOf f (record { name = printed; kind = Printed }) text → IsAnswer opening files text (No line) → IsRefusedRun printed names f opening line
+  refused_by : (line : ℕ) (text : FileText) → IsTextOf f (record { name = printed; kind = Printed }) text → IsAnswer opening files text (No line) → IsRefusedRun printed names f opening line
   unfolding whole_run
   refused_by line (Whole bytes) is answer = inr (record { run = whole_run bytes.items is.0 is.1; verdict = answer.1 })
   refused_by line TooLong is answer = inl (is.0, same_line line answer)
@@ -139,7 +139,7 @@ module _ (printed : List ℕ) (names : List (List ℕ)) {s t : Sight} {f g : Fil
   }
 
   -- it says no
-  pub ends_no : (line : ℕ) → IsRefusedRun printed names f opening line → Ends (AuditRun printed names) (world_of s f k) (world_of t g k) [] (Some (Audit line))
+  ends_no : (line : ℕ) → IsRefusedRun printed names f opening line → Ends (AuditRun printed names) (world_of s f k) (world_of t g k) [] (Some (Audit line))
   ends_no line refused = record {
     headline = λ has. headline_read (Some (Audit line)) refl;
     causes = causes_read (Some (Audit line)) tt (record { opening = opening; opens = refl; starts = on; lawful = lawful; why = refused; left = reads })
@@ -172,7 +172,7 @@ module _ (printed : List ℕ) (names : List (List ℕ)) {s t : Sight} {f g : Fil
       causes = causes_read (Some Memory) tt tt (passed (Some Memory)) (λ good medium unread output. inr refl) tt (λ e. let no : ⊥ = cc in no) (sink_took stops.took);
     }
 
-    pub ends_yes : {l : SinkSight} (fault : Option Fault) → PrintsText yes_text None fault k l → Ends (AuditRun printed names) (world_of s f k) (world_of t g l) [] fault
+    ends_yes : {l : SinkSight} (fault : Option Fault) → PrintsText yes_text None fault k l → Ends (AuditRun printed names) (world_of s f k) (world_of t g l) [] fault
     ends_yes {l} None took = record {
       headline = λ has. headline_read None (yes_with l (TookAll k l) took.taken);
       causes = causes_read None tt tt (passed None) (λ good medium unread output. inl refl) tt (λ e. let no : ⊥ = cc in no) (sink_took took);
@@ -187,3 +187,16 @@ module _ (printed : List ℕ) (names : List (List ℕ)) {s t : Sight} {f g : Fil
           headline = λ has. headline_read (Some Memory) (inl (inl refl));
           causes = causes_read (Some Memory) tt tt (passed (Some Memory)) (λ good medium unread output. inr refl) tt (λ e. let no : ⊥ = cc in no) sink_same;
         }))
+
+-- the same, from the verdict on what was read
+module _ (printed : List ℕ) (names : List (List ℕ)) {s t : Sight} {f g : FilesSight} (k : SinkSight) (run : PrintedRun) (are : AreOfRun f printed names run)
+    (in_order : ReadsInOrder (audit_files printed names) None f g) (settled : IsTrue s.is_visible → IsSettled s.len (state_now s)) (reads : OnlyReads true s t) where
+  pub audited_yes : {l : SinkSight} → IsAnswerOn s run Yes → (fault : Option Fault) → PrintsText (codes "yes" ++ 10 ∷ []) None fault k l → Ends (AuditRun printed names) (world_of s f k) (world_of t g l) [] fault
+  audited_yes answer fault text =
+      let found = found_by printed names f (requests_in run.files.items) answer.0 are.read run.printed are.text are.in_range answer.3 in
+      ends_yes printed names k answer.0 answer.1 answer.2 settled reads (audit_files_read printed names run are in_order) found.0 found.1 fault text
+
+  pub audited_no : (line : ℕ) → IsAnswerOn s run (No line) → Ends (AuditRun printed names) (world_of s f k) (world_of t g k) [] (Some (Audit line))
+  audited_no line answer =
+      let refused = refused_by printed names f (requests_in run.files.items) answer.0 are.read line run.printed are.text answer.3 in
+      ends_no printed names k answer.0 answer.1 answer.2 settled reads (audit_files_read printed names run are in_order) line refused

@@ -18,4 +18,5 @@ pub mod Refusals
 pub mod Stops
 pub mod StreamEnds
 pub mod TakenPackets
+pub mod ThreadedRuns
 pub mod Works

@@ -18,10 +18,11 @@ use Rattle.tatp_model.specs.OneThread.{RepliesOfOneThread}
 use Rattle.run_order.specs.Printed.{NumbersOfOneThread}
 use Rattle.run_order.proofs.NumbersPrinted.{law_parts}
 use Rattle.dude_io.specs.Sink.{SinkSight, Took}
+use Rattle.dude_stream.specs.Streams.{Streams}
 use Rattle.back_store.specs.Back.{BackState, idle}
 use Rattle.back_store.specs.Operations.{MakesOperations}
 use Rattle.pmem_trait.specs.declared.medium.Medium.{Ghosts}
-use Rattle.back_store.specs.BackView.{sight_of}
+use Rattle.back_store.specs.BackView.{medium_of, sight_of}
 use Rattle.dude_recover.specs.declared.opened.Opened.{Opened}
 use Rattle.dude_recover.specs.Opened.{HoldsOpened, IsOpened}
 use Rattle.run_threads.specs.Answers.{AnswersOnThreads, AreSyncsDurable, KnowsReads, TellsSyncsOnThreads}
@@ -32,6 +33,7 @@ use Rattle.command_edges.specs.Printing.{FailsIn}
 use Rattle.tatp_model.specs.Files.{requests_in}
 use Rattle.dude_engine.specs.Opening.{IsUpToLast, Opening}
 use Rattle.dude_engine.specs.Requests.{request_count}
+use Rattle.dude_engine.specs.declared.ran.Ran.{Ran}
 use Rattle.dude_engine.specs.declared.ran.RanEnd.{RanEnd}
 use Rattle.dude_engine.specs.declared.ran.RanEnd.TheVariants.{Whole, NoMemory}
 use Rattle.dude_engine.specs.declared.ran.RanEnd.TheVariants as ran
@@ -40,6 +42,7 @@ use Rattle.dude_engine.proofs.LogOperations.{run_makes}
 use Rattle.dude_engine.proofs.Numbering.{greatest_all, greatest_from}
 use Rattle.command_edges.specs.declared.fault.Fault.{Fault}
 use Rattle.command_edges.specs.declared.fault.Fault.TheVariants.{Device, Memory}
+use Rattle.dude_program.specs.declared.worked.Worked.{Worked}
 use Rattle.dude_program.specs.Causes.{FailsOnlyAtDevice}
 use Rattle.dude_program.specs.Work.{PrintsText, RanOver, fault_of_end}
 
@@ -160,11 +163,34 @@ module _ {M : Type 0} {ghosts : Ghosts M} (o : Opened M ghosts) (opened : IsOpen
     only = only_ends end;
   }
 
+-- The requests were run so over an opened image, on threads, which share this; its medium, seen so, is given back. Their replies are
+-- known where it is known what they read.
+abbrev pub RanOnThreads : {M : Type 0} {ghosts : Ghosts M} → (M → Sight) → Opened M ghosts → Run → List (Vec Request Global) → Worked M → Type 0
+RanOnThreads sight o run files worked = (opening : Opening) → plain.IsOpeningOf o opening
+    → RanOver true (KnowsReads opening.sizes run (sight (medium_of o.back))) AnyNumber opening o.words.items (requests_in files) worked.done.items worked.last worked.fault
+    (sight (medium_of o.back)) (sight worked.medium)
+
+-- so it is seen of a command
+module _ {M : Type 0} {ghosts : Ghosts M} (o : Opened M ghosts) (opened : IsOpened o) (run : Run) (files : List (Vec Request Global)) (ran : Ran M)
+    (answers : (opening : Opening) → plain.IsOpeningOf o opening → AnswersOnThreads run opening (requests_in files) ran.done.items (sight_of o.back))
+    (syncs : TellsSyncsOnThreads o.number ran.done.items (sight_of o.back) (ghosts.sight ran.medium))
+    (moments : (opening : Opening) → plain.IsOpeningOf o opening → RecoversOnThreads opening o.words.items ran.done.items (sight_of o.back) (ghosts.sight ran.medium))
+    (ends : EndsOnThreads o (requests_in files) ran.done.items ran.end ran.last (ghosts.sight ran.medium))
+    (worked : Worked M) (done : worked.done ≡ ran.done) (medium : worked.medium ≡ ran.medium) (last : worked.last ≡ ran.last) (fault : worked.fault ≡ fault_of_end ran.end) where
+  pub ran_on_threads : RanOnThreads ghosts.sight o run files worked
+  ran_on_threads opening own =
+      rw (done, medium, last, fault) (ran_over_threads o opened run files ran.done.items ran.end ran.last (ghosts.sight ran.medium) opening own (answers opening own) syncs (moments opening own) ends)
+
 -- a run is whole where it ended with no fault
-pub whole_none : (end : RanEnd) → is_none (fault_of_end end) ≡ is_whole end
+whole_none : (end : RanEnd) → is_none (fault_of_end end) ≡ is_whole end
 whole_none Whole = refl
 whole_none ran.Device = refl
 whole_none NoMemory = refl
+
+-- what was printed of it meanwhile
+pub streamed_so : {M : Type 0} (failed : Bool) (k l : SinkSight) (ran : Ran M) (worked : Worked M) → worked.done ≡ ran.done → worked.last ≡ ran.last → worked.fault ≡ fault_of_end ran.end
+    → Streams (is_whole ran.end) failed ran.done.items ran.last k l → Streams (is_none worked.fault) failed worked.done.items worked.last k l
+streamed_so failed k l ran worked done last fault streams = rw (done, last, fault, whole_none ran.end) streams
 
 -- ---- a text
 

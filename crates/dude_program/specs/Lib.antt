@@ -8,9 +8,10 @@ pub mod Headline
 pub mod Judging
 pub mod Opening
 pub mod Prepared
+pub mod Run
 pub mod Ship
 pub mod Shipping
-pub mod Streaming
+pub mod Show
 pub mod Taking
 pub mod Work
 pub mod World

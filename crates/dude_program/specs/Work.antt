@@ -1,5 +1,5 @@
 -- What becomes of a command's requests, and of its output.
-use Rattle.std.specs.Prelude.{◌≡◌, ◌⊎◌, Bool, true, false, ℕ, ◌<◌, ◌≤◌, ◌+◌, ◌*◌, Option, Some, None, unwrap_or, IsTrue, List, length, All, ⊤}
+use Rattle.std.specs.Prelude.{◌≡◌, ◌⊎◌, Bool, false, ℕ, ◌<◌, ◌≤◌, ◌+◌, ◌*◌, Option, Some, None, unwrap_or, IsTrue, List, length, All, ⊤}
 use Rattle.std.specs.Global.{Vec}
 use Rattle.dude_base.specs.declared.limits.TheConstants.{MAX_NUMBER}
 use Rattle.dude_base.specs.declared.run.Run.{Run}
@@ -17,8 +17,8 @@ use Rattle.tatp_text.specs.Summary.{summary_of}
 use Rattle.dude_io.specs.Sink.{SinkSight, Took}
 use Rattle.run_order.specs.Runs.{SyncsFollow}
 use Rattle.run_order.specs.Printed.{NumbersOfOneThread}
-use Rattle.run_threads.specs.Answers.{AreSyncsDurable, KnowsReads}
-use Rattle.run_threads.specs.Ends.{AnyNumber, EndsWhole}
+use Rattle.run_threads.specs.Answers.{AreSyncsDurable}
+use Rattle.run_threads.specs.Ends.{EndsWhole}
 use Rattle.dude_engine.specs.declared.ran.RanEnd.{RanEnd}
 use Rattle.dude_engine.specs.declared.ran.RanEnd.TheVariants.{Whole, NoMemory}
 use Rattle.dude_engine.specs.declared.ran.RanEnd.TheVariants as ran
@@ -94,12 +94,6 @@ abbrev pub RanOverOpened : {M : Type 0} {ghosts : Ghosts M} → (M → Sight) �
 RanOverOpened sight o files worked = (opening : Opening) → IsOpeningOf o opening
     → RanOver false ⊤ (IsUpToLast opening) opening o.words.items (requests_in files) worked.done.items worked.last worked.fault
     (sight (medium_of o.back)) (sight worked.medium)
-
--- so on threads, which share this: their replies are known where it is known what they read
-abbrev pub RanOnThreads : {M : Type 0} {ghosts : Ghosts M} → (M → Sight) → Opened M ghosts → Run → List (Vec Request) → Worked M → Type 0
-RanOnThreads sight o run files worked = (opening : Opening) → IsOpeningOf o opening
-    → RanOver true (KnowsReads opening.sizes run (sight (medium_of o.back))) AnyNumber opening o.words.items (requests_in files) worked.done.items
-    worked.last worked.fault (sight (medium_of o.back)) (sight worked.medium)
 
 -- no list has more than 100,000 requests
 abbrev pub EachIsFew : List (List Request) → Type 0

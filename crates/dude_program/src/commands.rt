@@ -1,22 +1,22 @@
 //! The commands that make or open the image: each reads its files, makes or opens the image, does its work, and prints.
 
-ghost use Rattle.std.specs.Prelude.{◌≡◌, ◌<◌, ◌≤◌, IfErr, IfOk, IfSome, length, map};
-ghost use Rattle.std.specs.Rc.{rc_str_bytes};
-ghost use Rattle.dude_base.specs.declared.limits.TheConstants.{MAX_LOCKS, MAX_RINGS};
+ghost use Rattle.std.specs.Prelude.{◌≡◌, ◌≤◌, IfErr, IfOk};
+ghost use Rattle.dude_base.specs.declared.limits.TheConstants.{MAX_RINGS};
 ghost use Rattle.pmem_trait.specs.Sights.{IsAtRest};
-ghost use Rattle.command_edges.specs.Command.{IsBetween, Meaning.FreshRun, Meaning.FormatImage, Meaning.RunFiles, Meaning.RecoverImage, Meaning.DumpTables, Meaning.DriveLoad};
+ghost use Rattle.command_edges.specs.Command.{IsBetween, Meaning.FreshRun, Meaning.FormatImage, Meaning.DriveLoad};
 ghost use Rattle.command_edges.specs.Fault.{status_of};
 ghost use Rattle.dude_program.specs.Ended.{EndedAs, EndedWithoutFiles};
 ghost use Rattle.dude_program.specs.Ending.{Ends};
 ghost use Rattle.dude_base.specs.Sizes.{AreTheSizes, IsFaultOf};
 ghost use Rattle.dude_program.specs.Opening.{format_sizes};
+ghost use Rattle.dude_program.specs.Show.{meaning_of_shown};
 
 use crate::ended::Ended;
 use crate::load::{Load, make_load};
 use crate::output::{end_with_lines, end_with_summary, print_dump};
-use crate::prepared::{Prepared, prepare};
 use crate::run_options::RunOptions;
-use crate::worked::{idle, work, work_on_threads};
+use crate::shown::Shown;
+use crate::worked::{Worked, idle, work};
 use command_edges::read_files;
 use command_openings::{make_and_open, open_and_announce};
 use dude_base::size_fault::SizeFault;
@@ -24,8 +24,8 @@ use dude_base::sizes::Sizes;
 use dude_io::{Files, Sink};
 use pmem_trait::Medium;
 use request_attempts::gate::Gate;
+use run_threads::threaded;
 use std::alloc::Global;
-use std::rc::RcStr;
 use std::thread::Threads;
 
 /// What a new image is to have.
@@ -115,63 +115,21 @@ pub fn format<M: Medium, K: Sink>(
     }
 }
 
-/// Runs the requests of the files over the image, each file on a thread of its own.
-pub fn run<R: Threads + Sync, M: Medium + Send, F: Files, K: Sink, G: Gate + Sync>(
-    rt: &R,
-    alloc: Global,
-    options: RunOptions,
-    names: &[RcStr],
-    medium: M,
-    files: &mut F,
-    out: &mut K,
-    gate: &G,
-) -> Ended<M>
-    requires settled { IsAtRest (M.sight medium) }
-    requires locks { IfSome options.locks (IsBetween 1 MAX_LOCKS) }
-    requires some { 0 < length names.now }
-    ensures status { result.status ≡ status_of result.fault }
-    ensures ends { EndedAs
-        (Ends (RunFiles options.frames options.locks (map rc_str_bytes names.now)))
-        M.sight F.sight K.sight medium files.old files.new out.old out.new result }
-{
-    match prepare(alloc, options.frames, names, medium, files) {
-        Ok(Prepared { lists, opened }) => {
-            let run = options.over(opened.sizes.pages);
-            end_with_lines(
-                alloc,
-                work_on_threads(rt, alloc, opened, &run, &lists, gate),
-                out,
-            )
-        }
-        Err(ended) => ended,
-    }
-}
-
-/// Recovers the image.
-pub fn recover<M: Medium, K: Sink>(alloc: Global, medium: M, out: &mut K) -> Ended<M>
+/// Recovers the image, and prints this of it.
+pub fn show<M: Medium, K: Sink>(alloc: Global, shown: Shown, medium: M, out: &mut K) -> Ended<M>
     requires settled { IsAtRest (M.sight medium) }
     ensures status { result.status ≡ status_of result.fault }
-    ensures ends { EndedWithoutFiles (Ends RecoverImage)
+    ensures ends { EndedWithoutFiles (Ends (meaning_of_shown shown))
         M.sight K.sight medium out.old out.new result }
 {
     match open_and_announce(alloc, medium) {
-        Ok(opened) => end_with_lines(alloc, idle(alloc, opened), out),
-        Err((fault, medium)) => Ended::refused(alloc, fault, medium),
-    }
-}
-
-/// Prints the tables of the image.
-pub fn dump<M: Medium, K: Sink>(alloc: Global, medium: M, out: &mut K) -> Ended<M>
-    requires settled { IsAtRest (M.sight medium) }
-    ensures status { result.status ≡ status_of result.fault }
-    ensures ends { EndedWithoutFiles (Ends DumpTables)
-        M.sight K.sight medium out.old out.new result }
-{
-    match open_and_announce(alloc, medium) {
-        Ok(opened) => {
-            let fault = print_dump(alloc, &opened, out);
-            Ended::new(fault, opened.back.into_medium(), Vec::new(alloc))
-        }
+        Ok(opened) => match shown {
+            Shown::Number => end_with_lines(alloc, idle(alloc, opened), out),
+            Shown::Tables => {
+                let fault = print_dump(alloc, &opened, out);
+                Ended::new(fault, opened.back.into_medium(), Vec::new(alloc))
+            }
+        },
         Err((fault, medium)) => Ended::refused(alloc, fault, medium),
     }
 }
@@ -203,11 +161,8 @@ pub fn drive<R: Threads + Sync, M: Medium + Send, K: Sink, G: Gate + Sync>(
                 locks: None,
             };
             let run = options.over(opened.sizes.pages);
-            end_with_summary(
-                alloc,
-                work_on_threads(rt, alloc, opened, &run, &lists, gate),
-                out,
-            )
+            let ran = threaded(rt, alloc, opened, &run, &lists, gate);
+            end_with_summary(alloc, Worked::from_ran(ran), out)
         }
         Err(fault) => Ended::refused(alloc, fault, opened.back.into_medium()),
     }

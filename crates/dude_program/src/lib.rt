@@ -15,11 +15,12 @@ mod locate;
 mod locating;
 mod output;
 mod prepared;
+mod print_time;
+mod run;
 mod run_options;
 mod ship;
 mod shipping;
-mod stream;
-mod streaming;
+mod shown;
 mod top;
 mod worked;
 

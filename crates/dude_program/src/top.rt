@@ -10,15 +10,17 @@ ghost use Rattle.dude_program.specs.Ending.{CausesByWords, Ends, EndsByWords, Fo
 ghost use Rattle.dude_program.specs.World.{world_of};
 
 use crate::audit::audit;
-use crate::commands::{ImageCounts, drive, dump, format, fresh, recover, run};
+use crate::commands::{ImageCounts, drive, format, fresh, show};
 use crate::ended::Ended;
 use crate::follow::follow;
 use crate::load::Load;
 use crate::locate::locate;
 use crate::locating::LocationRange;
+use crate::print_time::PrintTime;
+use crate::run::run;
 use crate::run_options::RunOptions;
 use crate::ship::ship;
-use crate::stream::stream;
+use crate::shown::Shown;
 use command_edges::{Command, Fault, command_of};
 use dude_io::{Files, Sink};
 use pmem_trait::Medium;
@@ -73,7 +75,8 @@ fn carry_out<R: Threads + Sync, M: Medium + Send, F: Files, K: Sink + Send, G: G
             files: names,
         } => {
             let options = RunOptions { frames, locks };
-            run(rt, alloc, options, names, medium, files, out, gate)
+            let time = PrintTime::AtEnd;
+            run(rt, alloc, time, options, names, medium, files, out, gate)
         }
         Command::Stream {
             frames,
@@ -81,10 +84,11 @@ fn carry_out<R: Threads + Sync, M: Medium + Send, F: Files, K: Sink + Send, G: G
             files: names,
         } => {
             let options = RunOptions { frames, locks };
-            stream(rt, alloc, options, names, medium, files, out, gate)
+            let time = PrintTime::Meanwhile;
+            run(rt, alloc, time, options, names, medium, files, out, gate)
         }
-        Command::Recover => recover(alloc, medium, out),
-        Command::Dump => dump(alloc, medium, out),
+        Command::Recover => show(alloc, Shown::Number, medium, out),
+        Command::Dump => show(alloc, Shown::Tables, medium, out),
         Command::Locate { low, high, limit } => {
             let range = LocationRange { low, high, limit };
             locate(alloc, range, medium, out)

@@ -1,11 +1,10 @@
 use Rattle.std.proofs.Common.{map}
 use Rattle.std.specs.Rc.{rc_str_bytes}
 use Rattle.command_edges.specs.Command.{Meaning.AuditRun}
-use Rattle.tatp_model.specs.Files.{requests_in}
 use Rattle.command_openings.proofs.ReadOnly.{read_partly}
 use Rattle.dude_program.proofs.Stops.{ends_at_files, ends_at_open, prefix_at_rest}
 use Rattle.dude_program.proofs.EachCommand.{audit_opens}
-use Rattle.dude_program.proofs.Audits.{audit_files_read, ends_no, ends_yes, found_by, refused_by}
+use Rattle.dude_program.proofs.Audits.{audit_files_read, audited_no, audited_yes}
 use Rattle.dude_program.proofs.audit.audit.Goals as goal
 
 pub returns-in-Err-clause-ends : goal.returns-in-Err-clause-ends
@@ -16,27 +15,17 @@ returns-in-Err-clause-ends g c =
 
 pub returns-in-Ok-Yes-clause-ends : goal.returns-in-Ok-Yes-clause-ends
 returns-in-Ok-Yes-clause-ends g c =
-    let f = g.F.Files.sight c.args.files.now in
-    let printed = c.args.printed.now in
-    let names = map rc_str_bytes c.args.names.now in
-    let run = c.in-Ok.run' in
-    let are = c.in-Ok.ensures.read in
+    let ended = c.new-in-Ok-Yes.ensures in
     let answer = rw c.in-Ok-Yes.field-0-is at c.in-Ok-Yes.ensures.answer in
-    let found = found_by printed names f (requests_in run.files.items) answer.0 are.read run.printed are.text are.in_range answer.3 in
-    rw (c.new-in-Ok-Yes.ensures.medium, c.new-in-Ok-Yes.ensures.done, c.new-in-Ok-Yes.ensures.fault, c.new.ensures.items)
-    (ends_yes printed names (g.K.Sink.sight c.args.out.now) answer.0 answer.1 answer.2 c.requires.settled c.in-Ok-Yes.ensures.reads (audit_files_read printed names run are c.in-Ok.ensures.reads) found.0 found.1 c.print_yes.result c.print_yes.ensures)
+    rw (ended.medium, ended.done, ended.fault, c.new.ensures.items)
+    (audited_yes c.args.printed.now (map rc_str_bytes c.args.names.now) (g.K.Sink.sight c.args.out.now) c.in-Ok.run' c.in-Ok.ensures.read c.in-Ok.ensures.reads c.requires.settled c.in-Ok-Yes.ensures.reads answer c.print_yes.result c.print_yes.ensures)
 
 pub returns-in-Ok-No-clause-ends : goal.returns-in-Ok-No-clause-ends
 returns-in-Ok-No-clause-ends g c =
-    let f = g.F.Files.sight c.args.files.now in
-    let printed = c.args.printed.now in
-    let names = map rc_str_bytes c.args.names.now in
-    let run = c.in-Ok.run' in
-    let are = c.in-Ok.ensures.read in
+    let ended = c.refused-in-Ok-No.ensures in
     let answer = rw c.in-Ok-No.field-0-is at c.in-Ok-No.ensures.answer in
-    rw (c.refused-in-Ok-No.ensures.medium, c.refused-in-Ok-No.ensures.done, c.refused-in-Ok-No.ensures.fault)
-    (ends_no printed names (g.K.Sink.sight c.args.out.now) answer.0 answer.1 answer.2 c.requires.settled c.in-Ok-No.ensures.reads (audit_files_read printed names run are c.in-Ok.ensures.reads) c.in-Ok-No.line
-    (refused_by printed names f (requests_in run.files.items) answer.0 are.read c.in-Ok-No.line run.printed are.text answer.3))
+    rw (ended.medium, ended.done, ended.fault)
+    (audited_no c.args.printed.now (map rc_str_bytes c.args.names.now) (g.K.Sink.sight c.args.out.now) c.in-Ok.run' c.in-Ok.ensures.read c.in-Ok.ensures.reads c.requires.settled c.in-Ok-No.ensures.reads c.in-Ok-No.line answer)
 
 pub returns-clause-ends : goal.returns-clause-ends
 returns-clause-ends g c =

@@ -10,7 +10,7 @@ use Rattle.dude_program.proofs.Stops.{ends_at_open, unless_opened}
 use Rattle.dude_program.proofs.Crashes.{left_opened}
 use Rattle.dude_program.proofs.Came.{opened_old, came_ran, came_refused}
 use Rattle.dude_program.proofs.EachCommand.{drive_came, drive_opens, drive_passes, held_as_opened, is_opening_of, opening_of}
-use Rattle.dude_program.proofs.Works.{mixed_length}
+use Rattle.dude_program.proofs.Works.{mixed_length, ran_on_threads}
 use Rattle.dude_program.proofs.commands.drive.Goals as goal
 
 pub returns-in-Err-clause-ends : goal.returns-in-Err-clause-ends
@@ -19,19 +19,22 @@ returns-in-Err-clause-ends g c f =
     rw (c.refused.ensures.medium, c.refused.ensures.done, c.refused.ensures.fault)
     (ends_at_open (drive_opens load.seed load.count load.files _) (no_files (DriveLoad load.seed load.count load.files) f refl) c.in-Err.ensures.prefix (unless_opened (drive_opens load.seed load.count load.files _) refl c.in-Err.ensures.only_read) c.in-Err.fault c.in-Err.ensures.fault)
 
-pub work_on_threads-requires-clause-held : goal.work_on_threads-requires-clause-held
-work_on_threads-requires-clause-held g c lives bounds =
+pub threaded-ran-requires-clause-may : goal.threaded-ran-requires-clause-may
+threaded-ran-requires-clause-may g c κs inside =
+    let load = c.args.load in
     let o = c.in-Ok.opened in
     let opened = c.in-Ok.ensures.opened in
-    held_as_opened o opened (g.M.Medium.sight c.args.medium) (c.in-Ok.ensures.is_open (opening_of o opened) (is_opening_of o opened)).1
-
-pub work_on_threads-requires-clause-some : goal.work_on_threads-requires-clause-some
-work_on_threads-requires-clause-some g c =
-    let load = c.args.load in
     let lists = c.in-Ok-make_load.lists.items in
-    let long : length lists ≡ load.files =
-    mixed_length (λ file. mixed load.seed file load.files c.in-Ok.opened.sizes.subscribers load.count) lists load.files c.in-Ok-make_load.ensures.made.requests in
-    rw c.deref.ensures.value (omega (arith, long, c.requires.files.0))
+    let made = c.in-Ok-make_load.ensures.made in
+    let long : length lists ≡ load.files = mixed_length (λ file. mixed load.seed file load.files o.sizes.subscribers load.count) lists load.files made.requests in
+    rw c.deref.ensures.value (record {
+      held = held_as_opened o opened (g.M.Medium.sight c.args.medium) (c.in-Ok.ensures.is_open (opening_of o opened) (is_opening_of o opened)).1;
+      run_within = c.over-run.ensures.within;
+      some = omega (arith, long, c.requires.files.0);
+      rings = made.rings;
+      in_range = made.in_range;
+      numbers = made.numbers;
+    })
 
 pub returns-in-Ok-make_load-clause-ends : goal.returns-in-Ok-make_load-clause-ends
 returns-in-Ok-make_load-clause-ends g c f =
@@ -43,10 +46,13 @@ returns-in-Ok-make_load-clause-ends g c f =
     let is_open = c.in-Ok.ensures.is_open opening (is_opening_of o opened) in
     let made = c.in-Ok-make_load.ensures.made in
     let are : requests_in lists ≡ load_of o.sizes.subscribers load.seed load.count load.files = ap requests_in c.deref.ensures.value ∙ made.requests in
+    let says = c.threaded-ran.ensures in
+    let worked = c.from_ran.ensures in
+    let ran = ran_on_threads o opened c.over-run.result lists c.threaded-ran.result says.replies says.syncs says.moments says.end c.from_ran.result worked.done worked.medium worked.last worked.fault in
     let came = came_ran (no_files (DriveLoad load.seed load.count load.files) f refl) (opened_old (drive_opens load.seed load.count load.files _) refl is_open.0 is_open.1)
     refl (λ known. inr c.over-run.ensures.frames) (λ order n any. tt) refl are
     (λ opens why refuses. drive_passes load.seed load.count load.files f opening (requests_in lists) are made.files made.subscribers (rw c.deref.ensures.value made.numbers) why refuses)
-    c.work_on_threads.result.fault (c.work_on_threads.ensures opening (is_opening_of o opened)) in
+    c.from_ran.result.fault (ran opening (is_opening_of o opened)) in
     rw (c.end_with_summary.ensures.medium, c.end_with_summary.ensures.done) (ends_printed _ _ _ came (λ whole. (refl, tt)) c.end_with_summary.ensures.printed)
 
 pub returns-in-Err-make_load-clause-ends : goal.returns-in-Err-make_load-clause-ends

@@ -1,4 +1,4 @@
-use Rattle.std.proofs.Common.{◌<◌, ◌∙◌, ap, length, map, refl, sym, subst}
+use Rattle.std.proofs.Common.{◌∙◌, ap, map, refl, sym, subst}
 use Rattle.std.specs.Rc.{rc_str_bytes}
 use Rattle.std.proofs.lemmas.List.{length-map}
 use Rattle.back_store.specs.Back.{BackState}
@@ -62,12 +62,11 @@ take_texts-requires-clause-rests g c =
 pub returns-in-Ok-take_texts : goal.returns-in-Ok-take_texts
 returns-in-Ok-take_texts g c =
     let names = map rc_str_bytes c.args.names.now in
-    let some : 0 < length names = rw (length-map c.args.names.now rc_str_bytes) c.requires.some in
     let image = c.in-Ok-open_and_announce in
     let made = c.in-Ok-new in
     let both =
     all_ends names (g.K.Sink.sight c.args.out.now) c.in-Ok.texts.items c.in-Ok.ensures.read c.in-Ok.ensures.reads c.args.medium c.requires.settled image.opened image.ensures.opened image.ensures.is_open image.ensures.recovered
-    some c.deref.result.now c.deref.ensures.value made.follower c.take_texts.new.follower made.ensures.starts made.ensures.holds c.in-Ok-take_texts.dropped c.number.result c.waiting.result c.print_followed-fault.result
+    (rw (length-map c.args.names.now rc_str_bytes) c.requires.some) c.deref.result.now c.deref.ensures.value made.follower c.take_texts.new.follower made.ensures.starts made.ensures.holds c.in-Ok-take_texts.dropped c.number.result c.waiting.result c.print_followed-fault.result
     c.in-Ok-take_texts.ensures c.number.ensures c.waiting.ensures.kept c.print_followed-fault.ensures in
     let ended = c.new-in-Ok-take_texts-2.ensures in
     let medium = ended.medium ∙ c.into_medium-in-Ok-take_texts.ensures in
@@ -78,12 +77,11 @@ returns-in-Ok-take_texts g c =
 pub returns : goal.returns
 returns g c =
     let names = map rc_str_bytes c.args.names.now in
-    let some : 0 < length names = rw (length-map c.args.names.now rc_str_bytes) c.requires.some in
     let image = c.in-Ok-open_and_announce in
     let made = c.in-Ok-new in
     let both =
     stop_ends names (g.K.Sink.sight c.args.out.now) c.in-Ok.texts.items c.in-Ok.ensures.read c.in-Ok.ensures.reads c.args.medium c.requires.settled image.opened image.ensures.opened image.ensures.is_open image.ensures.recovered
-    some c.deref.result.now c.deref.ensures.value made.follower c.take_texts.new.follower made.ensures.starts made.ensures.holds c.in-Err-take_texts.fault c.in-Err-take_texts.ensures in
+    (rw (length-map c.args.names.now rc_str_bytes) c.requires.some) c.deref.result.now c.deref.ensures.value made.follower c.take_texts.new.follower made.ensures.starts made.ensures.holds c.in-Err-take_texts.fault c.in-Err-take_texts.ensures in
     let ended = c.refused-in-Err-take_texts.ensures in
     let medium = ended.medium ∙ c.into_medium-in-Err-take_texts.ensures in
     record { status = ended.status; ends = rw (medium, ended.done, ended.fault) both.0; follows = rw (medium, ended.fault) both.1 }

@@ -7,13 +7,13 @@ pub returns-in-Run-clause-ends : goal.returns-in-Run-clause-ends
 returns-in-Run-clause-ends g c = rw c.in-Run.is c.run.ensures.ends
 
 pub returns-in-Stream-clause-ends : goal.returns-in-Stream-clause-ends
-returns-in-Stream-clause-ends g c = rw c.in-Stream.is c.stream.ensures.ends
+returns-in-Stream-clause-ends g c = rw c.in-Stream.is c.run-in-Stream.ensures.ends
 
 pub returns-in-Recover-clause-ends : goal.returns-in-Recover-clause-ends
-returns-in-Recover-clause-ends g c = rw c.in-Recover.is (c.recover.ensures.ends (g.F.Files.sight c.args.files.now))
+returns-in-Recover-clause-ends g c = rw c.in-Recover.is (c.show.ensures.ends (g.F.Files.sight c.args.files.now))
 
 pub returns-in-Dump-clause-ends : goal.returns-in-Dump-clause-ends
-returns-in-Dump-clause-ends g c = rw c.in-Dump.is (c.dump.ensures.ends (g.F.Files.sight c.args.files.now))
+returns-in-Dump-clause-ends g c = rw c.in-Dump.is (c.show-in-Dump.ensures.ends (g.F.Files.sight c.args.files.now))
 
 pub returns-in-Locate-clause-ends : goal.returns-in-Locate-clause-ends
 returns-in-Locate-clause-ends g c = rw c.in-Locate.is (c.locate.ensures.ends (g.F.Files.sight c.args.files.now))
