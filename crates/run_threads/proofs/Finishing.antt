@@ -1,8 +1,8 @@
 -- What is left of a run, by what its transactions left.
-use Rattle.std.proofs.Common.{◌≡◌, ◌↔◌, ℕ, ◌≤◌, Bool, false, true, IsTrue, List, sym, subst, arith}
+use Rattle.std.proofs.Common.{◌≡◌, ◌↔◌, ℕ, ◌≤◌, Bool, false, true, IsTrue, List, sym, ◌∙◌, subst, arith}
 use Rattle.std.specs.List.{All}
 use Rattle.std.proofs.lemmas.Bool.{true≢false}
-use Rattle.pmem_trait.specs.Sights.{Risen, Sight, SomeCalls, state_now}
+use Rattle.pmem_trait.specs.Sights.{Risen, Sight, state_now}
 use Rattle.tatp_model.specs.declared.done.Done.{Done}
 use Rattle.tatp_model.specs.declared.request.Request.{Request}
 use Rattle.tatp_model.specs.Database.{Database}
@@ -14,6 +14,7 @@ use Rattle.dude_engine.specs.declared.ran.RanEnd.{RanEnd}
 use Rattle.dude_engine.specs.declared.ran.RanEnd.TheVariants.{Device, Whole}
 use Rattle.dude_engine.specs.Endings.{End, WasToldLast}
 use Rattle.dude_engine.specs.Plain.{LosesFew, most_lost, ran_well}
+use Rattle.run_threads.specs.Ends.{AnyNumber, EndsWhole}
 use Rattle.run_threads.specs.HasRun.{AreEntriesDone, HasRun}
 use Rattle.run_threads.specs.Ran.{RanFrom, Start, StandsAt, opening_of}
 use Rattle.run_threads.proofs.Answering as answering
@@ -33,17 +34,18 @@ module _ (k : Start) (es : List Entry) (last durable : ℕ) (well : Bool) (t : S
   none_lost within first said most db stands before held visible =
       answering.none_lost k.setup k.sizes es last durable well k.sight t run synced files done are upto db stands (seen visible) within first most before held visible (said visible)
 
-  -- where it isn't whole
-  pub unless_whole : (e : RanEnd) → (e ≡ Whole → ⊥) → well ≡ ran_well e → (well ≡ false) ↔ (e ≡ Device) → (e ≡ Device → Risen k.sight.faults t.faults)
-      → (ran_well e ≡ true → (db : Database) → StandsAt k db → LosesFew (most_lost e) (opening_of k db) k.setup.opening done k.sight t) → RanFrom k files done e durable t
-  unless_whole e not_whole well_is device cause few = record {
+  -- what is left, however it ended
+  left : (e : RanEnd) → well ≡ ran_well e → (well ≡ false) ↔ (e ≡ Device) → (e ≡ Device → Risen k.sight.faults t.faults)
+      → (ran_well e ≡ true → (db : Database) → StandsAt k db → LosesFew (most_lost e) (opening_of k db) k.setup.opening done k.sight t)
+      → (e ≡ Whole → (db : Database) → StandsAt k db → EndsWhole AnyNumber (opening_of k db) k.setup.opening files done durable k.sight t) → (e ≡ Whole → MakesOperations k.state k.sight t) → RanFrom k files done e durable t
+  left e well_is device cause few whole operates = record {
     numbers = answering.numbers k.setup k.sizes es last durable well k.sight t run synced files done are upto;
     replies = λ told db stands. answering.replies k.setup k.sizes es last durable well k.sight t run synced files done are upto db stands told;
     syncs = answering.syncs k.setup k.sizes es last durable well k.sight t run synced files done are upto;
     moments = λ db stands. answering.moments k.setup k.sizes es last durable well k.sight t run synced files done are upto db stands seen;
     len = run.later.len;
-    whole = λ whole. absurd (not_whole whole);
-    operates = λ whole. absurd (not_whole whole);
+    whole = whole;
+    operates = operates;
     from = run.from;
     last_told = λ visible db. subst (λ (ok : Bool). WereTold ok k.setup.first durable (state_now k.sight).told (state_now t).told) well_is (run.told visible);
     ran = (well, run.ran, device);
@@ -51,26 +53,20 @@ module _ (k : Start) (es : List Entry) (last durable : ℕ) (well : Bool) (t : S
     few_lost = few;
   }
 
+  -- where it isn't whole
+  pub unless_whole : (e : RanEnd) → (e ≡ Whole → ⊥) → well ≡ ran_well e → (well ≡ false) ↔ (e ≡ Device) → (e ≡ Device → Risen k.sight.faults t.faults)
+      → (ran_well e ≡ true → (db : Database) → StandsAt k db → LosesFew (most_lost e) (opening_of k db) k.setup.opening done k.sight t) → RanFrom k files done e durable t
+  unless_whole e not_whole well_is device cause few = left e well_is device cause few (λ whole. absurd (not_whole whole)) (λ whole. absurd (not_whole whole))
+
   -- where all is done, the last number was told last, and no call failed
   pub whole_run : well ≡ true → durable ≡ last → k.setup.first ≤ last → AllAreDone files done → (IsTrue k.sight.is_visible → WasToldLast last k.sight t) → MakesOperations k.state k.sight t → RanFrom k files done Whole durable t
-  whole_run went all_durable first all said operates = record {
-    numbers = answering.numbers k.setup k.sizes es last durable well k.sight t run synced files done are upto;
-    replies = λ told db stands. answering.replies k.setup k.sizes es last durable well k.sight t run synced files done are upto db stands told;
-    syncs = answering.syncs k.setup k.sizes es last durable well k.sight t run synced files done are upto;
-    moments = λ db stands. answering.moments k.setup k.sizes es last durable well k.sight t run synced files done are upto db stands seen;
-    len = run.later.len;
-    whole = λ whole db stands. record {
-      all = all;
-      none_over = subst (λ (n : ℕ). All (λ d. d.number ≤ n) done) (sym all_durable) (answering.none_over k.setup k.sizes es last durable well k.sight t run synced files done are upto (omega arith));
-      from = run.from;
-      reaches = tt;
-      end = λ before held visible. subst (λ (n : ℕ). End (opening_of k db) done n k.sight t) (sym all_durable)
-          (answering.end k.setup k.sizes es last durable well k.sight t run synced files done are upto db stands (seen visible) before held visible (said visible));
-    };
-    operates = λ whole. operates;
-    from = run.from;
-    last_told = λ visible db. subst (λ (ok : Bool). WereTold ok k.setup.first durable (state_now k.sight).told (state_now t).told) went (run.told visible);
-    ran = (true, subst (λ (ok : Bool). SomeCalls ok k.sight t) went run.ran, ((λ no. absurd (true≢false no)), (λ device. absurd (let no : ⊥ = cc in no))));
-    cause = λ device. absurd (let no : ⊥ = cc in no);
-    few_lost = λ ok db stands. none_lost (omega arith) first said 0 db stands;
-  }
+  whole_run went all_durable first all said operates =
+      left Whole went ((λ no. absurd (true≢false (sym went ∙ no))), (λ device. absurd (let no : ⊥ = cc in no))) (λ device. absurd (let no : ⊥ = cc in no)) (λ ok db stands. none_lost (omega arith) first said 0 db stands)
+      (λ whole db stands. record {
+        all = all;
+        none_over = subst (λ (n : ℕ). All (λ d. d.number ≤ n) done) (sym all_durable) (answering.none_over k.setup k.sizes es last durable well k.sight t run synced files done are upto (omega arith));
+        from = run.from;
+        reaches = tt;
+        end = λ before held visible. subst (λ (n : ℕ). End (opening_of k db) done n k.sight t) (sym all_durable)
+            (answering.end k.setup k.sizes es last durable well k.sight t run synced files done are upto db stands (seen visible) before held visible (said visible));
+      }) (λ whole. operates)

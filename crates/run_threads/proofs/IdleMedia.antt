@@ -99,7 +99,3 @@ holds_reopened sight sizes c room holds o v first before home start told = holds
 pub only_memory : (s : Sizes) (array : List ℕ) (fault : CheckFault) → IsCause (IsNotDb s array) fault → IsLawful s array → fault ≡ NoMemory
 only_memory s array (NotDb word) is lawful = absurd (is.unlawful lawful)
 only_memory s array NoMemory is lawful = refl
-
--- want of memory is a cause, whatever the words are
-pub free_cause : (P : ℕ → Type 0) (fault : CheckFault) → fault ≡ NoMemory → IsCause P fault
-free_cause P fault is = subst (IsCause P) (sym is) tt

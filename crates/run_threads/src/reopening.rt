@@ -5,7 +5,7 @@ ghost use Rattle.back_store.specs.BackView.{medium_of};
 ghost use Rattle.dude_base.specs.declared.limits.TheConstants.{MAX_NUMBER, PAGE};
 ghost use Rattle.dude_base.specs.Image.{image_words};
 ghost use Rattle.dude_base.specs.Sizes.{IsAccepted};
-ghost use Rattle.dude_recover.specs.Opened.{HasParts, HoldsWhereIdle, IsOpened};
+ghost use Rattle.dude_recover.specs.Opened.{HasParts, IsOpened};
 ghost use Rattle.run_threads.specs.Reopened.{HoldsReopened};
 ghost use Rattle.tatp_check.specs.Faults.{IsCause};
 ghost use Rattle.tatp_check.specs.declared.check_fault.CheckFault.TheVariants.{NoMemory};
@@ -48,30 +48,10 @@ pub fn reopen<M: Medium>(
     } = closed;
     let medium = back.into_medium();
     match check(alloc, &lay, words.as_slice()) {
-        Ok(()) => open(alloc, medium, lay, words, number),
+        Ok(()) => match Opened::new(alloc, medium, lay, words, number) {
+            Ok(opened) => Ok(opened),
+            Err((refused, medium)) => Err((CheckFault::from(refused), medium)),
+        },
         Err(fault) => Err((fault, medium)),
-    }
-}
-
-/// The image of lawful words.
-fn open<M: Medium>(
-    alloc: Global,
-    medium: M,
-    lay: Layout,
-    words: Vec<u64>,
-    number: u64,
-) -> Result<Opened<M>, (CheckFault, M)>
-    requires accepted { IsAccepted lay }
-    requires room { image_words lay ≤ (M.sight medium).len }
-    requires small { number ≤ MAX_NUMBER }
-    requires lawful { IsLawful lay words.items }
-    ensures opened { IfOk result (λ o. IsOpened o × HasParts lay number words.items o) }
-    ensures medium { MatchResult result (λ o. medium_of o.back ≡ medium) (λ r. r.1 ≡ medium) }
-    ensures fault { IfErr result (λ r. r.0 ≡ NoMemory) }
-    ensures holds { IfOk result (λ o. HoldsWhereIdle lay number words.items (M.sight medium)) }
-{
-    match Opened::new(alloc, medium, lay, words, number) {
-        Ok(opened) => Ok(opened),
-        Err((refused, medium)) => Err((CheckFault::from(refused), medium)),
     }
 }

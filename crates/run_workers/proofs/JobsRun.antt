@@ -1,7 +1,9 @@
 -- The jobs of files before and behind their threads.
-use Rattle.std.proofs.Common.{◌≡◌, ℕ, suc, ◌+◌, ◌<◌, List, [], ◌∷◌, length, get_or, map, refl, ap, ap₂, sym, ◌∙◌, arith}
+use Rattle.std.proofs.Common.{◌≡◌, ℕ, suc, ◌+◌, ◌<◌, List, [], ◌∷◌, length, get_or, map, refl, ap, ap₂, sym, ◌∙◌, subst, arith}
+use Rattle.std.specs.Global.{Vec}
 use Rattle.std.specs.List.{All, sum_by}
-use Rattle.std.proofs.lemmas.List.{get_or-map, length-map}
+use Rattle.std.specs.Vec.{with_items}
+use Rattle.std.proofs.lemmas.List.{get_or-map, length-map, with_items_is}
 use Rattle.std.proofs.lemmas.List.FromFn.{get_or-range_with_len, length-range_with_len}
 use Rattle.std.proofs.lemmas.List.Sums.{sum_by-cons}
 use Rattle.dude_base.specs.declared.sizes.Sizes.{Sizes}
@@ -13,6 +15,12 @@ use Rattle.stm_transactions.specs.Passes.{pass_view}
 use Rattle.run_workers.specs.declared.job.Job.{Job}
 use Rattle.run_workers.specs.Job.{HasWorkedOn, IsJobOf, KeepPlaces, thread_count}
 use Rattle.run_workers.specs.Jobs.{AreFresh, FirstHasRoom, HaveWorked}
+
+-- the elements of a list were changed where they lie: what holds of them holds of the list
+pub changed_in_place : {A : Type 0} (P : List A → Type 0) (list : Vec A) (old new : List A) → old ≡ list.items → length new ≡ length old → P new → P (with_items list new).items
+changed_in_place {A} P list old new was long holds =
+    let many = ap (λ (l : List A). length l) was in
+    subst P (sym (with_items_is list new (omega (arith, list.ok.0)))) holds
 
 -- the first one's list has the room that it had
 pub first_kept : {X : Type 0} (count : ℕ) (old new : List (Job X)) → length new ≡ length old → KeepPlaces old new → FirstHasRoom count old → FirstHasRoom count new

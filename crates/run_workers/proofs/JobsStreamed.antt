@@ -2,7 +2,8 @@
 use Rattle.std.proofs.Common.{◌≡◌, ℕ, suc, ◌+◌, ◌<◌, List, [], ◌∷◌, length, take, map, get_or, refl, sym, ap, ap₂, ◌∙◌, arith, subst}
 use Rattle.std.specs.Prelude.{All, Option, None, Some, IfSome}
 use Rattle.std.specs.List.{enumerate_from, sum_by}
-use Rattle.std.specs.Vec.{vec_capacity}
+use Rattle.std.specs.Global.{Vec}
+use Rattle.std.specs.Vec.{vec_capacity, with_items}
 use Rattle.std.proofs.lemmas.List.{get_or-map, length-map}
 use Rattle.std.proofs.lemmas.List.Elements.{All-cons, All-nil}
 use Rattle.std.proofs.lemmas.List.FromFn.{get_or-range_with_len, length-range_with_len}
@@ -30,6 +31,7 @@ use Rattle.run_workers.specs.Lanes.{AreLanes, AreOpen, AreOpenLanes, HasReceived
 use Rattle.run_workers.specs.Printed.{ArePrinted, IsPrinted, LeaveFew}
 use Rattle.run_workers.specs.Streamed.{HasStreamed}
 use Rattle.run_workers.proofs.FirstLines.{AreOfFiles, first_lines, first_of_done}
+use Rattle.run_workers.proofs.JobsRun.{changed_in_place}
 
 -- ---- jobs with other ends of lanes
 module _ {X : Type 0} where
@@ -70,7 +72,7 @@ module _ {X K : Type 0} (t : TableSight K) (files : List (List Request)) where
     threads = same_sums (λ j. thread_count (pass_view j.pass)) (λ j b. refl) old new long same ∙ h.threads;
   }
 
-  pub fresh_still : (old new : List (Job X)) → length new ≡ length old → HaveSameWork old new → AreFresh t files old → AreFresh t files new
+  fresh_still : (old new : List (Job X)) → length new ≡ length old → HaveSameWork old new → AreFresh t files old → AreFresh t files new
   fresh_still = same_jobs (IsFresh t) (λ r j b h. record { rests = h.rests; no_entry = h.no_entry; no_fault = h.no_fault; from = h.from; draws = h.draws; none = h.none; room = h.room })
 
   pub worked_still : (s : Sizes) (old new : List (Job X)) → length new ≡ length old → HaveSameWork old new → HaveWorked t s files old → HaveWorked t s files new
@@ -89,7 +91,7 @@ module _ {X K : Type 0} (t : TableSight K) (files : List (List Request)) where
       sym (get_or-map file_of jobs k d 0 within) ∙ (ap (λ (l : List ℕ). get_or l k 0) h.in_order ∙ get_or-range_with_len 0 (length files) k 0 (omega arith))
 
   -- ---- before the work
-  pub lanes_opened : (boxes : List Outbox) (outlets : List Outlet) (old new : List (Job X)) → AreFresh t files old → length new ≡ length old → HaveBoxes boxes new → AreOpenLanes files boxes outlets → AreOpen files new outlets
+  lanes_opened : (boxes : List Outbox) (outlets : List Outlet) (old new : List (Job X)) → AreFresh t files old → length new ≡ length old → HaveBoxes boxes new → AreOpenLanes files boxes outlets → AreOpen files new outlets
   lanes_opened boxes outlets old new h long have opened =
       let count = jobs_count (IsFresh t) old h in record {
         jobs_count = long ∙ count;
@@ -105,6 +107,27 @@ module _ {X K : Type 0} (t : TableSight K) (files : List (List Request)) where
       opened_at k j o within b =
           let count = jobs_count (IsFresh t) old h in
           subst (λ (x : Option Outbox). OpensTo (requests_of files k) x (get_or outlets k o)) (sym (have k j b (omega arith))) (opened.each k b o within)
+
+-- the jobs of a list got their ends of the lanes
+module _ {X : Type 0} (list : Vec (Job X)) (old new : List (Job X)) (was : old ≡ list.items) (long : length new ≡ length old) (work : HaveSameWork old new) where
+  abbrev handed : List (Job X)
+  handed = (with_items list new).items
+
+  -- the first one's list has the room that it had
+  pub room_handed : (count : ℕ) → FirstHasRoom count list.items → FirstHasRoom count handed
+  room_handed count room = changed_in_place (λ l. FirstHasRoom count l) list old new was long (first_still count old new long work (subst (λ (l : List (Job X)). FirstHasRoom count l) (sym was) room))
+
+  module _ {K : Type 0} (t : TableSight K) (files : List (List Request)) (fresh : AreFresh t files list.items) where
+    before : AreFresh t files old
+    before = subst (λ (l : List (Job X)). AreFresh t files l) (sym was) fresh
+
+    -- nothing of the files is done yet
+    pub fresh_handed : AreFresh t files handed
+    fresh_handed = changed_in_place (λ l. AreFresh t files l) list old new was long (fresh_still t files old new long work before)
+
+    -- and nothing went through the lanes
+    pub lanes_handed : (boxes : List Outbox) (outlets : List Outlet) → HaveBoxes boxes new → AreOpenLanes files boxes outlets → AreOpen files handed outlets
+    lanes_handed boxes outlets have opened = changed_in_place (λ l. AreOpen files l outlets) list old new was long (lanes_opened t files boxes outlets old new before long have opened)
 
 -- a worker that has sent nothing
 opens_first : (requests : List Request) (box : Option Outbox) (outlet : Outlet) (done : List Done) → OpensTo requests box outlet → IfSome box (HasSent done)

@@ -86,32 +86,27 @@ plain-behind-requires-clause-numbers g c =
     subst (λ l. HasNumberEach c.in-Ok-reopen.opened.number (map (λ f. f.items) l)) (sym c.as_slice-in-Ok-reopen.ensures.value)
     (numbers o a.lay a.frames files a.closed a.done.items a.counts.items h rests are c.in-Ok-reopen.opened.number (c.in-Ok-reopen.ensures.opened.1.1 ∙ c.read_home.ensures.number))
 
-pub unite-requires-clause-room : goal.unite-requires-clause-room
-unite-requires-clause-room g c =
+pub unite-requires : goal.unite-requires
+unite-requires g c =
     let a = c.args in let files = map (λ f. f.items) a.files.now in let o = c.requires.aside.0 in let h = c.requires.aside.1 in
     let rests = map (λ f. f.items) c.as_slice-in-Ok-reopen.result.now in
     let are : AreRests files a.counts.items rests = subst (λ (l : List ℕ). AreRests files l rests) c.as_slice.ensures.value (subst (λ l. AreRests files c.as_slice.result.now (map (λ f. f.items) l)) (sym c.as_slice-in-Ok-reopen.ensures.value) c.in-Ok.ensures) in
+    let home = c.in-Ok-read_home.ensures.ok o h.view h.ended in
     let r = c.in-Ok-reopen in let ran = c.plain-behind in let does = ran.ensures in let sight = g.M.Medium.sight in
-    let few = fits o a.lay a.frames files a.closed a.done.items a.counts.items h rests are c.read_home.new.closed c.read_home.ensures.number (c.in-Ok-read_home.ensures.ok o h.view h.ended) r.opened r.ensures.opened r.ensures.medium r.ensures.holds
+    let few = fits o a.lay a.frames files a.closed a.done.items a.counts.items h rests are c.read_home.new.closed c.read_home.ensures.number home r.opened r.ensures.opened r.ensures.medium r.ensures.holds
     ran.result.done.items ran.result.end ran.result.last (sight ran.result.medium) does.replies does.syncs does.moments does.end in
+    let counted = all_counted o a.lay a.frames files a.closed a.done.items a.counts.items h rests are c.read_home.new.closed c.read_home.ensures.number home r.opened r.ensures.opened r.ensures.medium r.ensures.holds
+    ran.result.done.items ran.result.end ran.result.last (sight ran.result.medium) does.replies does.syncs does.moments does.end (small_files a.files.now) in
     let count = ap (λ l. request_count (map (λ f. f.items) l)) (c.as_slice-in-Ok-reopen.ensures.value ∙ sym c.as_slice-2.ensures.value) in
     let long = ap (λ (l : List Done). length l) c.as_slice-in-Ok-reopen-2.ensures.value in
-    let room = c.in-Ok-reserve.ensures.room in
-    omega arith
+    let room = c.in-Ok-reserve.ensures.room in record {
+      room = omega arith;
+      counted = subst (λ (l : List ℕ). All (IsCounted l) c.as_slice-in-Ok-reopen-2.result.now) (sym c.as_slice-in-Ok-reopen-3.ensures.value)
+          (subst (λ (l : List Done). All (IsCounted a.counts.items) l) (sym c.as_slice-in-Ok-reopen-2.ensures.value) counted);
+    }
 
-pub unite-requires-clause-counted : goal.unite-requires-clause-counted
-unite-requires-clause-counted g c =
-    let a = c.args in let files = map (λ f. f.items) a.files.now in let o = c.requires.aside.0 in let h = c.requires.aside.1 in
-    let rests = map (λ f. f.items) c.as_slice-in-Ok-reopen.result.now in
-    let are : AreRests files a.counts.items rests = subst (λ (l : List ℕ). AreRests files l rests) c.as_slice.ensures.value (subst (λ l. AreRests files c.as_slice.result.now (map (λ f. f.items) l)) (sym c.as_slice-in-Ok-reopen.ensures.value) c.in-Ok.ensures) in
-    let r = c.in-Ok-reopen in let ran = c.plain-behind in let does = ran.ensures in let sight = g.M.Medium.sight in
-    let counted = all_counted o a.lay a.frames files a.closed a.done.items a.counts.items h rests are c.read_home.new.closed c.read_home.ensures.number (c.in-Ok-read_home.ensures.ok o h.view h.ended) r.opened r.ensures.opened r.ensures.medium r.ensures.holds
-    ran.result.done.items ran.result.end ran.result.last (sight ran.result.medium) does.replies does.syncs does.moments does.end (small_files a.files.now) in
-    subst (λ (l : List ℕ). All (IsCounted l) c.as_slice-in-Ok-reopen-2.result.now) (sym c.as_slice-in-Ok-reopen-3.ensures.value)
-    (subst (λ (l : List Done). All (IsCounted a.counts.items) l) (sym c.as_slice-in-Ok-reopen-2.ensures.value) counted)
-
-pub returns-in-Ok-reopen-clause-ran : goal.returns-in-Ok-reopen-clause-ran
-returns-in-Ok-reopen-clause-ran g c = λ o h.
+pub returns-in-Ok-reopen : goal.returns-in-Ok-reopen
+returns-in-Ok-reopen g c =
     let a = c.args in let files = map (λ f. f.items) a.files.now in
     let rests = map (λ f. f.items) c.as_slice-in-Ok-reopen.result.now in
     let are : AreRests files a.counts.items rests = subst (λ (l : List ℕ). AreRests files l rests) c.as_slice.ensures.value (subst (λ l. AreRests files c.as_slice.result.now (map (λ f. f.items) l)) (sym c.as_slice-in-Ok-reopen.ensures.value) c.in-Ok.ensures) in
@@ -120,9 +115,16 @@ returns-in-Ok-reopen-clause-ran g c = λ o h.
     let all : c.reserve.new.done.items ++ map (shifted (slice_index c.as_slice-in-Ok-reopen-3.result.now)) c.as_slice-in-Ok-reopen-2.result.now ≡ them ran.result.done.items a.counts.items =
     ap (λ (l : List Done). l ++ map (shifted (slice_index c.as_slice-in-Ok-reopen-3.result.now)) c.as_slice-in-Ok-reopen-2.result.now) c.reserve.ensures.items
     ∙ ap (λ (l : List Done). them l c.as_slice-in-Ok-reopen-3.result.now) c.as_slice-in-Ok-reopen-2.ensures.value ∙ ap (λ (n : List ℕ). them ran.result.done.items n) c.as_slice-in-Ok-reopen-3.ensures.value in
-    ran_all o a.lay a.frames files a.closed a.done.items a.counts.items h rests are c.read_home.new.closed c.read_home.ensures.number (c.in-Ok-read_home.ensures.ok o h.view h.ended) r.opened r.ensures.opened r.ensures.medium r.ensures.holds
-    ran.result.done.items ran.result.end ran.result.last (sight ran.result.medium) does.replies does.syncs does.moments does.end
-    c.unite.new.done.items (subst (λ (l : List Done). IsPermutation l c.unite.new.done.items) all c.unite.ensures.same) (subst (λ (l : List Done). AllPairs StandApart l → AllPairs PrecedesInFiles c.unite.new.done.items) all c.unite.ensures.sorted)
+    let same = subst (λ (l : List Done). IsPermutation l c.unite.new.done.items) all c.unite.ensures.same in
+    let sorted = subst (λ (l : List Done). AllPairs StandApart l → AllPairs PrecedesInFiles c.unite.new.done.items) all c.unite.ensures.sorted in record {
+      ran = λ o h.
+          ran_all o a.lay a.frames files a.closed a.done.items a.counts.items h rests are c.read_home.new.closed c.read_home.ensures.number (c.in-Ok-read_home.ensures.ok o h.view h.ended) r.opened r.ensures.opened r.ensures.medium r.ensures.holds
+          ran.result.done.items ran.result.end ran.result.last (sight ran.result.medium) does.replies does.syncs does.moments does.end c.unite.new.done.items same sorted;
+      first =
+          let o = c.requires.aside.0 in let h = c.requires.aside.1 in
+          first_of_all o a.lay a.frames files a.closed a.done.items a.counts.items h rests are c.read_home.new.closed c.read_home.ensures.number (c.in-Ok-read_home.ensures.ok o h.view h.ended) r.opened r.ensures.opened r.ensures.medium r.ensures.holds
+          ran.result.done.items ran.result.end ran.result.last (sight ran.result.medium) does.replies does.syncs does.moments does.end c.unite.new.done.items same sorted;
+    }
 
 pub returns-clause-ran : goal.returns-clause-ran
 returns-clause-ran g c = λ o h.
@@ -140,20 +142,6 @@ returns-in_default-reserve-clause-first g c = let e = c.end_with-in_default-rese
 
 pub returns-in_default-read_home-clause-first : goal.returns-in_default-read_home-clause-first
 returns-in_default-read_home-clause-first g c = let e = c.end_with-in_default-read_home in none_behind c.args.done.items e.result.done.items (e.ensures.done ∙ c.reserve.ensures.items)
-
-pub returns-in-Ok-reopen-clause-first : goal.returns-in-Ok-reopen-clause-first
-returns-in-Ok-reopen-clause-first g c =
-    let a = c.args in let files = map (λ f. f.items) a.files.now in let o = c.requires.aside.0 in let h = c.requires.aside.1 in
-    let rests = map (λ f. f.items) c.as_slice-in-Ok-reopen.result.now in
-    let are : AreRests files a.counts.items rests = subst (λ (l : List ℕ). AreRests files l rests) c.as_slice.ensures.value (subst (λ l. AreRests files c.as_slice.result.now (map (λ f. f.items) l)) (sym c.as_slice-in-Ok-reopen.ensures.value) c.in-Ok.ensures) in
-    let r = c.in-Ok-reopen in let ran = c.plain-behind in let does = ran.ensures in let sight = g.M.Medium.sight in
-    let them : List Done → List ℕ → List Done = λ l n. a.done.items ++ map (shifted (slice_index n)) l in
-    let all : c.reserve.new.done.items ++ map (shifted (slice_index c.as_slice-in-Ok-reopen-3.result.now)) c.as_slice-in-Ok-reopen-2.result.now ≡ them ran.result.done.items a.counts.items =
-    ap (λ (l : List Done). l ++ map (shifted (slice_index c.as_slice-in-Ok-reopen-3.result.now)) c.as_slice-in-Ok-reopen-2.result.now) c.reserve.ensures.items
-    ∙ ap (λ (l : List Done). them l c.as_slice-in-Ok-reopen-3.result.now) c.as_slice-in-Ok-reopen-2.ensures.value ∙ ap (λ (n : List ℕ). them ran.result.done.items n) c.as_slice-in-Ok-reopen-3.ensures.value in
-    first_of_all o a.lay a.frames files a.closed a.done.items a.counts.items h rests are c.read_home.new.closed c.read_home.ensures.number (c.in-Ok-read_home.ensures.ok o h.view h.ended) r.opened r.ensures.opened r.ensures.medium r.ensures.holds
-    ran.result.done.items ran.result.end ran.result.last (sight ran.result.medium) does.replies does.syncs does.moments does.end
-    c.unite.new.done.items (subst (λ (l : List Done). IsPermutation l c.unite.new.done.items) all c.unite.ensures.same) (subst (λ (l : List Done). AllPairs StandApart l → AllPairs PrecedesInFiles c.unite.new.done.items) all c.unite.ensures.sorted)
 
 pub returns-clause-first : goal.returns-clause-first
 returns-clause-first g c = none_behind c.args.done.items c.reserve.new.done.items c.reserve.ensures.items

@@ -1,10 +1,8 @@
-use Rattle.std.proofs.Common.{◌≡◌, List, length, map, sym, ap, subst, arith}
-use Rattle.std.proofs.lemmas.List.{with_items_is}
-use Rattle.run_workers.specs.declared.job.Job.{Job}
+use Rattle.std.proofs.Common.{length, map, ap, arith}
 use Rattle.run_workers.specs.Job.{IsFresh}
-use Rattle.run_workers.specs.Jobs.{AreFresh, FirstHasRoom, request_count}
-use Rattle.run_workers.specs.Lanes.{AreOpen}
-use Rattle.run_workers.proofs.JobsStreamed.{first_still, fresh_still, jobs_count, lanes_opened}
+use Rattle.run_workers.specs.Jobs.{request_count}
+use Rattle.run_workers.specs.Work.{work_files, work_table}
+use Rattle.run_workers.proofs.JobsStreamed.{fresh_handed, jobs_count, lanes_handed, room_handed}
 use Rattle.run_workers.proofs.work.Work.open_all.Goals as goal
 
 pub hand_out-requires : goal.hand_out-requires
@@ -18,39 +16,17 @@ hand_out-requires g c =
 
 pub returns-clause-fresh : goal.returns-clause-fresh
 returns-clause-fresh g c =
-    let t = c.args.self.now.stm.now.events in
-    let files = map (λ f. f.items) c.args.self.now.files.now in
-    let each = c.in_ok-jobs.jobs.each in
-    let old = c.deref_mut.result.now in
-    let new = c.hand_out.new.jobs in
-    let v = ap length c.deref_mut.ensures.value in
-    let long : length new ≡ length old = c.hand_out.auto.jobs in
-    let len : length new ≡ each.len = omega (arith, each.ok.0) in
-    let fresh = subst (λ (l : List (Job _)). AreFresh t files l) (sym c.deref_mut.ensures.value) c.in_ok-jobs.ensures.ok in
-    subst (λ (l : List (Job _)). AreFresh t files l) (sym (with_items_is each new len)) (fresh_still t files old new long c.hand_out.ensures.work fresh)
+    let w = c.args.self.now in let jobs = c.in_ok-jobs in let gave = c.hand_out in
+    fresh_handed jobs.jobs.each c.deref_mut.result.now gave.new.jobs c.deref_mut.ensures.value gave.auto.jobs gave.ensures.work (work_table w) (work_files w) jobs.ensures.ok
 
 pub returns-clause-room : goal.returns-clause-room
 returns-clause-room g c =
-    let count = request_count (map (λ f. f.items) c.args.self.now.files.now) in
-    let each = c.in_ok-jobs.jobs.each in
-    let old = c.deref_mut.result.now in
-    let new = c.hand_out.new.jobs in
-    let v = ap length c.deref_mut.ensures.value in
-    let long : length new ≡ length old = c.hand_out.auto.jobs in
-    let len : length new ≡ each.len = omega (arith, each.ok.0) in
-    let room = subst (λ (l : List (Job _)). FirstHasRoom count l) (sym c.deref_mut.ensures.value) c.in_ok-jobs.ensures.room.done in
-    record { done = subst (λ (l : List (Job _)). FirstHasRoom count l) (sym (with_items_is each new len)) (first_still count old new long c.hand_out.ensures.work room); counts = c.in_ok-jobs.ensures.room.counts }
+    let jobs = c.in_ok-jobs in let gave = c.hand_out in record {
+      done = room_handed jobs.jobs.each c.deref_mut.result.now gave.new.jobs c.deref_mut.ensures.value gave.auto.jobs gave.ensures.work (request_count (work_files c.args.self.now)) jobs.ensures.room.done;
+      counts = jobs.ensures.room.counts;
+    }
 
 pub returns-clause-lanes : goal.returns-clause-lanes
 returns-clause-lanes g c =
-    let t = c.args.self.now.stm.now.events in
-    let files = map (λ f. f.items) c.args.self.now.files.now in
-    let each = c.in_ok-jobs.jobs.each in
-    let outlets = c.in-Ok.lanes.outlets.items in
-    let old = c.deref_mut.result.now in
-    let new = c.hand_out.new.jobs in
-    let v = ap length c.deref_mut.ensures.value in
-    let long : length new ≡ length old = c.hand_out.auto.jobs in
-    let len : length new ≡ each.len = omega (arith, each.ok.0) in
-    let fresh = subst (λ (l : List (Job _)). AreFresh t files l) (sym c.deref_mut.ensures.value) c.in_ok-jobs.ensures.ok in
-    subst (λ (l : List (Job _)). AreOpen files l outlets) (sym (with_items_is each new len)) (lanes_opened t files c.in-Ok.lanes.outboxes.items outlets old new fresh long c.hand_out.ensures.boxes c.in-Ok.ensures)
+    let w = c.args.self.now in let jobs = c.in_ok-jobs in let gave = c.hand_out in let lanes = c.in-Ok.lanes in
+    lanes_handed jobs.jobs.each c.deref_mut.result.now gave.new.jobs c.deref_mut.ensures.value gave.auto.jobs gave.ensures.work (work_table w) (work_files w) jobs.ensures.ok lanes.outboxes.items lanes.outlets.items gave.ensures.boxes c.in-Ok.ensures
