@@ -4,6 +4,7 @@ use crate::crashes::{medium_of, say_failures};
 use crate::disk::{change, open_beside, say_edge_fault, say_file};
 use crate::edges::{say_disk, say_output, say_sink, say_text, text_of};
 use crate::faulty_host::FaultyHost;
+use crate::file_command::FileCommand;
 use crate::log::Log;
 use crate::medium::{Subject, say_size};
 use crate::records::{
@@ -46,19 +47,14 @@ fn count_numbers(words: &[&str]) -> usize {
 }
 
 /// Carries out a command on a file of the system, on a sink or on standard output.
-fn on_file(
-    rt: HostRuntime,
-    name: &str,
-    numbers: &[u64],
-    file: &str,
-    lines: &[&str],
-) -> io::Result<()> {
-    match name {
+fn on_file(rt: HostRuntime, command: &FileCommand) -> io::Result<()> {
+    let (file, numbers) = (command.file, command.numbers);
+    match command.name {
         "disk" => say_disk(rt, file, number_at(numbers, 0)),
         "sink" => say_sink(rt, file, numbers),
         "output" => say_output(rt, file),
         "bytes" => say_file(rt, file, numbers),
-        _ => change(rt, name, numbers, file, lines),
+        _ => change(rt, command),
     }
 }
 
@@ -229,7 +225,15 @@ impl Bench {
             "open" => self.open(FaultyHost::new(self.rt, numbers.first().copied()), file),
             "watch" => self.watch(file, number_at(numbers, 0)),
             "open_beside" => open_beside(self.rt, file),
-            _ => on_file(self.rt, name, numbers, file, lines),
+            _ => on_file(
+                self.rt,
+                &FileCommand {
+                    name,
+                    numbers,
+                    file,
+                    lines,
+                },
+            ),
         }
     }
 

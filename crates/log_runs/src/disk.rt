@@ -2,6 +2,7 @@
 
 use crate::edges::text_of;
 use crate::faulty_host::FaultyHost;
+use crate::file_command::FileCommand;
 use crate::medium::say_size;
 use crate::say::say_pair;
 use dude_io::{EdgeFault, FilePmem};
@@ -47,16 +48,11 @@ pub fn say_edge_fault(rt: HostRuntime, fault: EdgeFault) -> io::Result<()> {
 }
 
 /// Makes or removes a file or a folder, and prints that it was done.
-pub fn change(
-    rt: HostRuntime,
-    name: &str,
-    numbers: &[u64],
-    file: &str,
-    lines: &[&str],
-) -> io::Result<()> {
-    let done = match name {
+pub fn change(rt: HostRuntime, command: &FileCommand) -> io::Result<()> {
+    let (file, numbers) = (command.file, command.numbers);
+    let done = match command.name {
         "fill" => write_bytes(rt, file, number_at(numbers, 0), number_at(numbers, 1)),
-        "store" => write_lines(rt, file, lines),
+        "store" => write_lines(rt, file, command.lines),
         "folder" => fs::create_dir(&rt, file),
         "remove" => fs::remove_file(&rt, file),
         "remove_empty" => fs::remove_dir(&rt, file),

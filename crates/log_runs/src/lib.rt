@@ -9,6 +9,7 @@ mod disk;
 mod edges;
 mod faulty_file;
 mod faulty_host;
+mod file_command;
 mod log;
 mod medium;
 mod persisted;
