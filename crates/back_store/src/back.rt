@@ -1,17 +1,17 @@
 //! The back of the store, over any medium.
 
-ghost use Rattle.std.specs.Prelude.{◌≡◌, ◌⊎◌, ◌↔◌, ℕ, ◌*◌, ◌<◌, ◌≤◌, IfOk, IfErr, IsErrOf, IsTrue, MatchResult, OnOk, List, false, true};
-ghost use Rattle.dude_base.specs.declared.limits.TheConstants.{MAX_NUMBER, PAGE};
-ghost use Rattle.dude_base.specs.Sizes.{IsAccepted};
-ghost use Rattle.dude_base.specs.Image.{home_word, image_words};
-ghost use Rattle.pmem_trait.specs.Sights.{Extends, state_now};
-ghost use Rattle.redo_record.specs.BackCalls.{read_page_calls};
-ghost use Rattle.back_store.specs.Backlog.{CanWait, IsLawful, StopsAfter};
-ghost use Rattle.back_store.specs.Back.{EndsFrom, IsPersistFault, IsRingFull, MayPersist, idle, ring_full};
 ghost use Rattle.back_store.specs.Answers.{CallsAnswered, SparesMedium, after_announce, after_persist, after_read, after_reproduce, with_record};
+ghost use Rattle.back_store.specs.Back.{EndsFrom, IsPersistFault, IsRingFull, MayPersist, idle, ring_full};
+ghost use Rattle.back_store.specs.Backlog.{CanWait, IsLawful, StopsAfter};
 ghost use Rattle.back_store.specs.Images.{IsIdleMedium, HoldsStore};
 ghost use Rattle.back_store.specs.PageReads.{AreWordsFrom};
 ghost use Rattle.back_store.specs.declared.back_fault.BackFault.TheVariants.{Device, Dead};
+ghost use Rattle.dude_base.specs.Image.{home_word, image_words};
+ghost use Rattle.dude_base.specs.Sizes.{IsAccepted};
+ghost use Rattle.dude_base.specs.declared.limits.TheConstants.{MAX_NUMBER, PAGE};
+ghost use Rattle.pmem_trait.specs.Sights.{Extends, state_now};
+ghost use Rattle.redo_record.specs.BackCalls.{read_page_calls};
+ghost use Rattle.std.specs.Prelude.{◌≡◌, ◌⊎◌, ◌↔◌, ℕ, ◌*◌, ◌<◌, ◌≤◌, IfOk, IfErr, IsErrOf, IsTrue, MatchResult, OnOk, List, false, true};
 
 use crate::back_fault::BackFault;
 use crate::backlog::Backlog;

@@ -1,12 +1,12 @@
 //! The records that wait, in the lanes of all rings.
 
-ghost use Rattle.std.specs.Prelude.{◌≡◌, ◌≤◌, IfOk, is_ok, map};
-ghost use Rattle.dude_base.specs.declared.limits.TheConstants.{MAX_NUMBER};
-ghost use Rattle.dude_base.specs.Image.{image_words};
-ghost use Rattle.redo_record.specs.Waiting.{IsContiguousEnd};
+ghost use Rattle.back_store.specs.Backlog.{AppendsIn, CanWait, HasRingCause, IsLawful, MayWait, Reproduces, StopsAfter, announced_to, appended_if, empty_log, reproduced_if};
 ghost use Rattle.back_store.specs.Lane.{IsLaneFull, released_lane};
 ghost use Rattle.back_store.specs.Lanes.{AreLed, lane_at, lanes_at_start, waiting_of};
-ghost use Rattle.back_store.specs.Backlog.{AppendsIn, CanWait, HasRingCause, IsLawful, MayWait, Reproduces, StopsAfter, announced_to, appended_if, empty_log, reproduced_if};
+ghost use Rattle.dude_base.specs.Image.{image_words};
+ghost use Rattle.dude_base.specs.declared.limits.TheConstants.{MAX_NUMBER};
+ghost use Rattle.redo_record.specs.Waiting.{IsContiguousEnd};
+ghost use Rattle.std.specs.Prelude.{◌≡◌, ◌≤◌, IfOk, is_ok, map};
 
 use crate::home_group::HomeGroup;
 use crate::lane::Lane;

@@ -1,10 +1,10 @@
 //! The records that are brought home together.
 
-ghost use Rattle.std.specs.Prelude.{◌≡◌, ◌≤◌, [], IfOk};
-ghost use Rattle.dude_base.specs.declared.limits.TheConstants.{MAX_NUMBER};
-ghost use Rattle.dude_base.specs.Image.{image_words};
-ghost use Rattle.back_store.specs.Lanes.{AreLanes, AreLed};
 ghost use Rattle.back_store.specs.HomeGroup.{BringsHome, StandForLed};
+ghost use Rattle.back_store.specs.Lanes.{AreLanes, AreLed};
+ghost use Rattle.dude_base.specs.Image.{image_words};
+ghost use Rattle.dude_base.specs.declared.limits.TheConstants.{MAX_NUMBER};
+ghost use Rattle.std.specs.Prelude.{◌≡◌, ◌≤◌, [], IfOk};
 
 use crate::home_puts::{line_list, settle_home};
 use crate::lane::Lane;

@@ -1,10 +1,10 @@
 //! The puts of home words, and their lines.
 
-ghost use Rattle.std.specs.Prelude.{◌≡◌, ◌*◌, ◌<◌, ◌≤◌, All, length, vec_capacity};
-ghost use Rattle.dude_base.specs.declared.limits.TheConstants.{PAGE};
-ghost use Rattle.dude_base.specs.Image.{image_words};
-ghost use Rattle.redo_record.specs.BackCalls.{home_writes, lines_touched};
 ghost use Rattle.back_store.specs.PutLines.{DecidesLine, IsLineAt, PutsHome, SettlesHome};
+ghost use Rattle.dude_base.specs.Image.{image_words};
+ghost use Rattle.dude_base.specs.declared.limits.TheConstants.{PAGE};
+ghost use Rattle.redo_record.specs.BackCalls.{home_writes, lines_touched};
+ghost use Rattle.std.specs.Prelude.{◌≡◌, ◌*◌, ◌<◌, ◌≤◌, All, length, vec_capacity};
 
 use dude_base::limits::LINE;
 use dude_base::place::Place;

@@ -1,10 +1,10 @@
 //! One ring of the log, and the records in it that wait.
 
-ghost use Rattle.std.specs.Prelude.{◌≡◌, ◌+◌, ◌^◌, ◌<◌, ◌≤◌, AllPairs, IfOk, MatchBool, if◌then◌else◌, is_ok, length, slice_index_or};
+ghost use Rattle.back_store.specs.Lane.{CanTake, CountsWritesAt, HasAt, HasLaneCause, IsFront, IsLaneFull, IsWriteAt, MayTake, NoneBegins, empty_lane, released_lane, with_redo};
 ghost use Rattle.dude_base.specs.Image.{image_words};
 ghost use Rattle.dude_base.specs.Records.{IsBundle, RedoBundle, first_of};
 ghost use Rattle.log_ring.specs.Appends.{AppendsBehind};
-ghost use Rattle.back_store.specs.Lane.{CanTake, CountsWritesAt, HasAt, HasLaneCause, IsFront, IsLaneFull, IsWriteAt, MayTake, NoneBegins, empty_lane, released_lane, with_redo};
+ghost use Rattle.std.specs.Prelude.{◌≡◌, ◌+◌, ◌^◌, ◌<◌, ◌≤◌, AllPairs, IfOk, MatchBool, if◌then◌else◌, is_ok, length, slice_index_or};
 
 use crate::entry::Entry;
 use crate::lane_writes::{put_writes, write_place};
@@ -27,8 +27,8 @@ pub struct Lane {
 }
 
 impl Model for Lane {
-    ghost use Rattle.back_store.specs.Lane.{LaneState};
     ghost use Rattle.back_store.specs.KeptLane.{IsKeptLane, waiting_in_lane};
+    ghost use Rattle.back_store.specs.Lane.{LaneState};
 
     ghost Value = { LaneState };
 

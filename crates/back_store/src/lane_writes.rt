@@ -1,9 +1,9 @@
 //! The places of a lane's writes: as in the ring, three for each cell.
 
-ghost use Rattle.std.specs.Prelude.{◌≡◌, ◌*◌, ◌<◌, ◌≤◌, length};
+ghost use Rattle.back_store.specs.Entries.{LeavesOthers, write_place, writes_in};
 ghost use Rattle.dude_base.specs.declared.limits.TheConstants.{MAX_BUNDLE_WRITES, MAX_CELLS};
 ghost use Rattle.redo_record.specs.Record.{cells_for};
-ghost use Rattle.back_store.specs.Entries.{LeavesOthers, write_place, writes_in};
+ghost use Rattle.std.specs.Prelude.{◌≡◌, ◌*◌, ◌<◌, ◌≤◌, length};
 
 use dude_base::bundle::Bundle;
 use dude_base::write::Write;

@@ -1,8 +1,8 @@
 //! The reads of a page.
 
-ghost use Rattle.std.specs.Prelude.{◌≡◌, ◌+◌, ◌≤◌, OnOk};
-ghost use Rattle.dude_base.specs.declared.limits.TheConstants.{PAGE};
 ghost use Rattle.back_store.specs.PageReads.{AreWordsFrom, ReadsFrom};
+ghost use Rattle.dude_base.specs.declared.limits.TheConstants.{PAGE};
+ghost use Rattle.std.specs.Prelude.{◌≡◌, ◌+◌, ◌≤◌, OnOk};
 
 use dude_base::limits::PAGE;
 use pmem_trait::{Failed, Medium};

@@ -1,8 +1,8 @@
 //! `audit PRINTED FILE..`.
 
+ghost use Rattle.command_edges.specs.Command.{HasMeaning, audit_of, behind_name};
 ghost use Rattle.std.specs.Prelude.{map};
 ghost use Rattle.std.specs.Rc.{rc_str_bytes};
-ghost use Rattle.command_edges.specs.Command.{HasMeaning, audit_of, behind_name};
 
 use crate::command::Command;
 use crate::form::{are_file_names, is_file_name};

@@ -1,8 +1,8 @@
 //! What the command words mean.
 
+ghost use Rattle.command_edges.specs.Command.{HasMeaning, IsAlone, IsInLimits, meaning_of};
 ghost use Rattle.std.specs.Prelude.{◌∷◌, drop, map, IfOk, IfSome};
 ghost use Rattle.std.specs.Rc.{rc_str_bytes};
-ghost use Rattle.command_edges.specs.Command.{HasMeaning, IsAlone, IsInLimits, meaning_of};
 
 use crate::audit::audit_of;
 use crate::drive::drive_of;

@@ -1,9 +1,9 @@
 //! `drive SEED COUNT FILES`.
 
+ghost use Rattle.command_edges.specs.Clap.{drive_in, has_three_form, matched_rows};
+ghost use Rattle.command_edges.specs.Command.{HasMeaning, behind_name, drive_of};
 ghost use Rattle.std.specs.Prelude.{◌≡◌, true, map, IfOk};
 ghost use Rattle.std.specs.Rc.{rc_str_bytes};
-ghost use Rattle.command_edges.specs.Command.{HasMeaning, behind_name, drive_of};
-ghost use Rattle.command_edges.specs.Clap.{drive_in, has_three_form, matched_rows};
 
 use crate::command::Command;
 use crate::form::is_number;

@@ -1,8 +1,8 @@
 //! Why a command was not carried out, the status that it ends with, and the line that it prints.
 
-ghost use Rattle.std.specs.Prelude.{◌≡◌, ◌++◌, decimal, OnOk, OnErr};
-ghost use Rattle.std.specs.Fmt.{WritesOnOk};
 ghost use Rattle.command_edges.specs.Fault.{fault_line};
+ghost use Rattle.std.specs.Fmt.{WritesOnOk};
+ghost use Rattle.std.specs.Prelude.{◌≡◌, ◌++◌, decimal, OnOk, OnErr};
 
 use std::alloc::{AllocError, AllocFailed};
 use std::fmt;
@@ -50,8 +50,8 @@ pub enum Fault {
 }
 
 impl Fault {
-    ghost use Rattle.std.specs.Prelude.{◌≡◌, Some};
     ghost use Rattle.command_edges.specs.Fault.{status_of};
+    ghost use Rattle.std.specs.Prelude.{◌≡◌, Some};
 
     /// The status that the program ends with.
     pub fn status(&self) -> u8
@@ -80,8 +80,8 @@ impl Fault {
 }
 
 impl fmt::Display for Fault {
-    ghost use Rattle.std.specs.Prelude.{Some};
     ghost use Rattle.command_edges.specs.Fault.{fault_words};
+    ghost use Rattle.std.specs.Prelude.{Some};
 
     ghost output = { λ f. Some (fault_words f) };
 
@@ -137,8 +137,8 @@ fn write_all<W: fmt::Write>(
 }
 
 impl From<AllocError> for Fault {
-    ghost use Rattle.std.specs.Prelude.{◌≡◌};
     ghost use Rattle.command_edges.specs.declared.fault.Fault.TheVariants.{Memory};
+    ghost use Rattle.std.specs.Prelude.{◌≡◌};
 
     ghost from_gives = { λ _ fault. fault ≡ Memory };
 
@@ -148,8 +148,8 @@ impl From<AllocError> for Fault {
 }
 
 impl<T: Drop> From<AllocFailed<T>> for Fault {
-    ghost use Rattle.std.specs.Prelude.{◌≡◌};
     ghost use Rattle.command_edges.specs.declared.fault.Fault.TheVariants.{Memory};
+    ghost use Rattle.std.specs.Prelude.{◌≡◌};
 
     ghost from_gives = { λ _ fault. fault ≡ Memory };
 

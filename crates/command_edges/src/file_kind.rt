@@ -14,8 +14,8 @@ pub enum FileKind {
 }
 
 impl FileKind {
-    ghost use Rattle.std.specs.Prelude.{◌≡◌};
     ghost use Rattle.command_edges.specs.CommandFile.{limit_of};
+    ghost use Rattle.std.specs.Prelude.{◌≡◌};
 
     /// How many bytes such a file may have.
     pub fn limit(self) -> u64

@@ -1,14 +1,14 @@
 //! The texts of files.
 
-ghost use Rattle.std.specs.Prelude.{◌≡◌, OnOk, IfOk, IfErr};
-ghost use Rattle.std.specs.Result.{result_err};
-ghost use Rattle.dude_io.specs.Files.{FilesStay};
-ghost use Rattle.dude_io.specs.FileText.{IsBounded, IsFileText, IsReadFault};
-ghost use Rattle.dude_io.specs.ReadsOfFile.{ReadsOnce};
 ghost use Rattle.command_edges.specs.CommandFile.{file_limit, file_wanted, files_wanted};
 ghost use Rattle.command_edges.specs.Files as asked;
 ghost use Rattle.command_edges.specs.Reads.{ReadsInOrder};
 ghost use Rattle.command_edges.specs.Texts.{AreTextsOf};
+ghost use Rattle.dude_io.specs.FileText.{IsBounded, IsFileText, IsReadFault};
+ghost use Rattle.dude_io.specs.Files.{FilesStay};
+ghost use Rattle.dude_io.specs.ReadsOfFile.{ReadsOnce};
+ghost use Rattle.std.specs.Prelude.{◌≡◌, OnOk, IfOk, IfErr};
+ghost use Rattle.std.specs.Result.{result_err};
 
 use crate::fault::Fault;
 use crate::file_wanted::FileWanted;

@@ -1,7 +1,7 @@
 //! The files that a command is to read.
 
-ghost use Rattle.std.specs.Prelude.{◌≡◌, ◌++◌, map, OnOk};
 ghost use Rattle.command_edges.specs.CommandFile.{files_of, files_wanted};
+ghost use Rattle.std.specs.Prelude.{◌≡◌, ◌++◌, map, OnOk};
 
 use crate::file_kind::FileKind;
 use std::alloc::AllocError;

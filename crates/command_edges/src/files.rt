@@ -1,10 +1,10 @@
 //! The request files of a command are read, in order, before any of them is parsed.
 
-ghost use Rattle.std.specs.Prelude.{◌≡◌, map, OnOk, IfOk, IfErr};
-ghost use Rattle.std.specs.Result.{result_err};
 ghost use Rattle.command_edges.specs.CommandFile.{request_files};
 ghost use Rattle.command_edges.specs.Files.{AreOfFiles, AreInRange, AreFew, IsFileFault, MissingStops, BadStops};
 ghost use Rattle.command_edges.specs.Reads.{ReadsInOrder};
+ghost use Rattle.std.specs.Prelude.{◌≡◌, map, OnOk, IfOk, IfErr};
+ghost use Rattle.std.specs.Result.{result_err};
 
 use crate::fault::Fault;
 use crate::file_kind::FileKind;

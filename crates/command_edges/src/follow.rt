@@ -1,8 +1,8 @@
 //! `follow FILE..`.
 
+ghost use Rattle.command_edges.specs.Command.{HasMeaning, behind_name, follow_of};
 ghost use Rattle.std.specs.Prelude.{map};
 ghost use Rattle.std.specs.Rc.{rc_str_bytes};
-ghost use Rattle.command_edges.specs.Command.{HasMeaning, behind_name, follow_of};
 
 use crate::command::Command;
 use crate::form::are_file_names;

@@ -1,10 +1,10 @@
 //! The form of single words.
 
+ghost use Rattle.command_edges.specs.Clap.{is_number, is_number_or_absent};
+ghost use Rattle.command_edges.specs.Command.{is_file_name, are_file_names};
+ghost use Rattle.command_edges.specs.Run.{text_of};
 ghost use Rattle.std.specs.Prelude.{◌≡◌, map};
 ghost use Rattle.std.specs.Rc.{rc_str_bytes};
-ghost use Rattle.command_edges.specs.Command.{is_file_name, are_file_names};
-ghost use Rattle.command_edges.specs.Clap.{is_number, is_number_or_absent};
-ghost use Rattle.command_edges.specs.Run.{text_of};
 
 use std::rc::RcStr;
 

@@ -1,9 +1,9 @@
 //! `format S C N CELLS`, and `xformat` with the same words.
 
+ghost use Rattle.command_edges.specs.Clap.{format_in, has_format_form, matched_rows};
+ghost use Rattle.command_edges.specs.Command.{HasMeaning, behind_name, format_of};
 ghost use Rattle.std.specs.Prelude.{◌≡◌, true, map, IfOk};
 ghost use Rattle.std.specs.Rc.{rc_str_bytes};
-ghost use Rattle.command_edges.specs.Command.{HasMeaning, behind_name, format_of};
-ghost use Rattle.command_edges.specs.Clap.{format_in, has_format_form, matched_rows};
 
 use crate::command::Command;
 use crate::form::is_number;

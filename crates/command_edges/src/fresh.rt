@@ -1,10 +1,10 @@
 //! `fresh S FILE`.
 
+ghost use Rattle.clap.specs.Words.{app_of, rule_of};
+ghost use Rattle.command_edges.specs.Clap.{file_rule, fresh_app, fresh_in, has_fresh_form, matched_rows};
+ghost use Rattle.command_edges.specs.Command.{HasMeaning, behind_name, fresh_of};
 ghost use Rattle.std.specs.Prelude.{◌≡◌, false, true, map, IfOk};
 ghost use Rattle.std.specs.Rc.{rc_str_bytes};
-ghost use Rattle.clap.specs.Words.{app_of, rule_of};
-ghost use Rattle.command_edges.specs.Command.{HasMeaning, behind_name, fresh_of};
-ghost use Rattle.command_edges.specs.Clap.{file_rule, fresh_app, fresh_in, has_fresh_form, matched_rows};
 
 use crate::command::Command;
 use crate::form::{is_file_name, is_number};

@@ -1,8 +1,8 @@
 //! The lines of the requests done and of the last number, handed to a sink in pieces.
 
+ghost use Rattle.command_edges.specs.Printing.{Gathers, Prints, StopsWithin, with_line, with_last};
 ghost use Rattle.std.specs.Prelude.{OnOk, IfErr};
 ghost use Rattle.tatp_text.specs.Output.{output_of};
-ghost use Rattle.command_edges.specs.Printing.{Gathers, Prints, StopsWithin, with_line, with_last};
 
 use crate::fault::Fault;
 use crate::text::print_text;

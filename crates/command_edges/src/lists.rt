@@ -1,7 +1,7 @@
 //! The requests of texts.
 
-ghost use Rattle.std.specs.Prelude.{◌≤◌, IfOk, IfErr};
 ghost use Rattle.command_edges.specs.Texts.{HoldEachRequests, HoldsRequests, IsTextFault, IsFirstTextFault};
+ghost use Rattle.std.specs.Prelude.{◌≤◌, IfOk, IfErr};
 
 use crate::fault::Fault;
 use dude_io::FileText;

@@ -1,9 +1,9 @@
 //! `locate LOW HIGH LIMIT`.
 
+ghost use Rattle.command_edges.specs.Clap.{has_three_form, locate_in, matched_rows};
+ghost use Rattle.command_edges.specs.Command.{HasMeaning, behind_name, locate_of};
 ghost use Rattle.std.specs.Prelude.{◌≡◌, true, map, IfOk};
 ghost use Rattle.std.specs.Rc.{rc_str_bytes};
-ghost use Rattle.command_edges.specs.Command.{HasMeaning, behind_name, locate_of};
-ghost use Rattle.command_edges.specs.Clap.{has_three_form, locate_in, matched_rows};
 
 use crate::command::Command;
 use crate::form::is_number;

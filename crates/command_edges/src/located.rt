@@ -1,8 +1,8 @@
 //! The lines of the subscribers that `locate` found and of the last number.
 
-ghost use Rattle.std.specs.Prelude.{◌≡◌, ◌++◌, OnOk, IfErr};
 ghost use Rattle.command_edges.specs.Located.{located_line, located_text};
 ghost use Rattle.command_edges.specs.Printing.{Prints, StopsWithin};
+ghost use Rattle.std.specs.Prelude.{◌≡◌, ◌++◌, OnOk, IfErr};
 
 use crate::fault::Fault;
 use crate::lines::print_last;

@@ -1,10 +1,10 @@
 //! `clap`'s arguments and matches.
 
-ghost use Rattle.std.specs.Prelude.{◌≡◌, map, IfOk, true, false};
-ghost use Rattle.std.specs.Option.{option_map};
-ghost use Rattle.std.specs.Rc.{rc_str_bytes};
 ghost use Rattle.clap.specs.Words.{app_of, first_of, is_simple_and_free, rule_of};
 ghost use Rattle.command_edges.specs.Clap.{IsReading, matched_rows, number_of, number_rule};
+ghost use Rattle.std.specs.Option.{option_map};
+ghost use Rattle.std.specs.Prelude.{◌≡◌, map, IfOk, true, false};
+ghost use Rattle.std.specs.Rc.{rc_str_bytes};
 
 use clap::builder::ValueParser;
 use clap::error::ErrorKind;

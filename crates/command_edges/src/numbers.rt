@@ -1,9 +1,9 @@
 //! Commands whose words are all numbers.
 
-ghost use Rattle.std.specs.Prelude.{◌≡◌, true, map, IfOk};
-ghost use Rattle.std.specs.Rc.{rc_str_bytes};
 ghost use Rattle.clap.specs.Words.{app_of, is_simple_and_free};
 ghost use Rattle.command_edges.specs.Numbers.{ReadsAll, numbers_app};
+ghost use Rattle.std.specs.Prelude.{◌≡◌, true, map, IfOk};
+ghost use Rattle.std.specs.Rc.{rc_str_bytes};
 
 use crate::matches::{matches_in, number};
 use clap::{ArgMatches, Command};

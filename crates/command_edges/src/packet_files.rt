@@ -1,11 +1,11 @@
 //! The files of packets of a command are read, in order.
 
-ghost use Rattle.std.specs.Prelude.{map, IfOk, IfErr};
-ghost use Rattle.std.specs.Result.{result_err};
 ghost use Rattle.command_edges.specs.CommandFile.{packet_files};
 ghost use Rattle.command_edges.specs.Files.{IsReadFault, MissingStops};
 ghost use Rattle.command_edges.specs.Reads.{ReadsInOrder};
 ghost use Rattle.command_edges.specs.Texts.{AreTextsOf};
+ghost use Rattle.std.specs.Prelude.{map, IfOk, IfErr};
+ghost use Rattle.std.specs.Result.{result_err};
 
 use crate::fault::Fault;
 use crate::file_kind::FileKind;

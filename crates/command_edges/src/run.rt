@@ -1,11 +1,11 @@
 //! `run` and `stream`, with their two options and one or more files.
 
+ghost use Rattle.clap.specs.Words.{app_of, rule_of};
+ghost use Rattle.command_edges.specs.Clap.{files_rule, has_run_form, option_rule, run_app};
+ghost use Rattle.command_edges.specs.Command.{HasMeaning, behind_name, in_front, run_of, run_words, stream_of};
+ghost use Rattle.command_edges.specs.Run.{AreGiven, as_words, text_of};
 ghost use Rattle.std.specs.Prelude.{◌≡◌, false, map, IfOk};
 ghost use Rattle.std.specs.Rc.{rc_str_bytes};
-ghost use Rattle.clap.specs.Words.{app_of, rule_of};
-ghost use Rattle.command_edges.specs.Command.{HasMeaning, behind_name, in_front, run_of, run_words, stream_of};
-ghost use Rattle.command_edges.specs.Clap.{files_rule, has_run_form, option_rule, run_app};
-ghost use Rattle.command_edges.specs.Run.{AreGiven, as_words, text_of};
 
 use crate::command::Command;
 use crate::form::{are_file_names, is_number_or_absent};

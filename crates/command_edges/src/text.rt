@@ -1,7 +1,7 @@
 //! A whole text, handed to a sink.
 
-ghost use Rattle.std.specs.Prelude.{◌≡◌, [], OnOk, IfErr};
 ghost use Rattle.command_edges.specs.Printing.{FailsIn, Prints};
+ghost use Rattle.std.specs.Prelude.{◌≡◌, [], OnOk, IfErr};
 
 use crate::fault::Fault;
 use dude_io::{Sink, write_all};

@@ -1,7 +1,7 @@
 //! What a fault of opening an image is for a command.
 
-ghost use Rattle.std.specs.Prelude.{◌≡◌};
 ghost use Rattle.command_openings.specs.Faults.{fault_of_opening};
+ghost use Rattle.std.specs.Prelude.{◌≡◌};
 
 use command_edges::Fault;
 use image_recovery::OpenFault;

@@ -1,7 +1,7 @@
 //! The image on a medium is recovered, and the medium only read.
 
-ghost use Rattle.std.specs.Prelude.{IfOk};
 ghost use Rattle.command_openings.specs.ImageRead.{IsImageOn, OnlyReadsImage};
+ghost use Rattle.std.specs.Prelude.{IfOk};
 
 use crate::fault::fault_of;
 use command_edges::Fault;

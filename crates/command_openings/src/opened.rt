@@ -1,11 +1,11 @@
 //! The image on a medium is opened, and its opening number told.
 
-ghost use Rattle.std.specs.Prelude.{IfOk, IfErr};
-ghost use Rattle.pmem_trait.specs.Sights.{IsAtRest};
-ghost use Rattle.dude_recover.specs.Opened.{IsOpened};
 ghost use Rattle.command_openings.specs.Announcing.{FailsTelling, IsAnnounced, IsSameImage, RanTelling, RisesFaults, ShowsWhileTelling};
-ghost use Rattle.command_openings.specs.Opens.{OpensOwn, OpensOwnPartly, OnlyReadsUnopened, RecoversOwn};
 ghost use Rattle.command_openings.specs.Faults.{IsOpenRefusal};
+ghost use Rattle.command_openings.specs.Opens.{OpensOwn, OpensOwnPartly, OnlyReadsUnopened, RecoversOwn};
+ghost use Rattle.dude_recover.specs.Opened.{IsOpened};
+ghost use Rattle.pmem_trait.specs.Sights.{IsAtRest};
+ghost use Rattle.std.specs.Prelude.{IfOk, IfErr};
 
 use crate::fault::fault_of;
 use command_edges::Fault;

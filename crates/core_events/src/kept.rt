@@ -1,12 +1,12 @@
 //! The kept state as a whole: it is there at the start, every step keeps it, and what it says of
 //! entries after any list of steps.
 
-ghost use Rattle.core_events.specs.Setups.{Setup, IsSetup};
-ghost use Rattle.core_events.specs.Words.{State};
-ghost use Rattle.core_events.specs.Partings.{start};
 ghost use Rattle.core_events.specs.Kept.{Kept};
 ghost use Rattle.core_events.specs.KeptLaws.{LawOfEvents, LawOfSplits, LawOfJoins, LawOfShownPages, LawOfKeptEntries, LawOfSteps, LawOfLegalEntries, LawOfEntriesMade};
+ghost use Rattle.core_events.specs.Partings.{start};
 ghost use Rattle.core_events.specs.Plain.{IsPlain};
+ghost use Rattle.core_events.specs.Setups.{Setup, IsSetup};
+ghost use Rattle.core_events.specs.Words.{State};
 
 /// The state at the start is kept, and so is the state after each allowed event, each split and
 /// each join from a kept one. A kept state says what `IsPlain` says of its words and views alone.

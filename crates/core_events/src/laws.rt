@@ -1,7 +1,7 @@
 //! Each layer of the kept state is kept by every allowed event, by a split and by a join of views.
 
-ghost use Rattle.core_events.specs.LayerLaws.{ThreadsIn, LocksIn, EntriesKept, TurnIn, PagesKept, NumbersKept, OrderKept, ValuesKept};
 ghost use Rattle.core_events.specs.LayerLaws.{Alone, OverLocks, OverTurn, OverNumbers, OverLayers, EventKeeps, SplitKeeps, JoinKeeps};
+ghost use Rattle.core_events.specs.LayerLaws.{ThreadsIn, LocksIn, EntriesKept, TurnIn, PagesKept, NumbersKept, OrderKept, ValuesKept};
 
 /// Threads' numbers stay in one view each, and are counted.
 pub fn law_of_threads()

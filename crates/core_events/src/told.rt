@@ -1,11 +1,11 @@
 //! What a program that takes the steps learns from them: it knows its own view, and of the rest
 //! of a kept state what each step tells.
 
-ghost use Rattle.core_events.specs.Setups.{Setup};
-ghost use Rattle.core_events.specs.Words.{State};
 ghost use Rattle.core_events.specs.Kept.{Kept};
 ghost use Rattle.core_events.specs.KeptLaws.{LawOfSeats, LawOfNames, LawOfFoundWords, LawOfReadOut, OfEachView, KeepsFull, LeavesDraws, HasDrawn, HasRaised};
+ghost use Rattle.core_events.specs.Setups.{Setup};
 ghost use Rattle.core_events.specs.Telling.{IsSized};
+ghost use Rattle.core_events.specs.Words.{State};
 
 /// A kept state has its words, each view of it is as its thread may rely on, the word of an event
 /// that a view may make exists, and each event tells something of the word that it finds. A view

@@ -2,9 +2,9 @@
 //! after another.
 
 ghost use Rattle.core_events.specs.Setups.{IsSetup};
-ghost use Rattle.core_medium.specs.Machines.{Machine};
-ghost use Rattle.core_medium.specs.KeptStore.{IsStart, opening_medium};
 ghost use Rattle.core_medium.specs.DurableCommit.{small_setup, small_sizes, IsDurablyCommitted};
+ghost use Rattle.core_medium.specs.KeptStore.{IsStart, opening_medium};
+ghost use Rattle.core_medium.specs.Machines.{Machine};
 
 /// A thread reads a word and writes it, and in one turn its record is persisted, announced and
 /// reproduced by nineteen calls on the medium; then the page is evicted, read, and the word filled

@@ -1,9 +1,9 @@
 //! What every list of steps leaves, and what every crash after it.
 
-ghost use Rattle.core_medium.specs.MachineLaws.{LawOfStart, LawOfMachines, LawOfWordSteps};
-ghost use Rattle.core_medium.specs.MachineLaws.{LawOfCrashes, LawOfKeptCrashes, LawOfImages, LawOfKeptImages, LawOfMarks};
-ghost use Rattle.core_medium.specs.MachineLaws.{LawOfWholeCalls, LawOfPageReads};
 ghost use Rattle.core_medium.specs.MachineLaws.{LawOfCombinedWrites};
+ghost use Rattle.core_medium.specs.MachineLaws.{LawOfCrashes, LawOfKeptCrashes, LawOfImages, LawOfKeptImages, LawOfMarks};
+ghost use Rattle.core_medium.specs.MachineLaws.{LawOfStart, LawOfMachines, LawOfWordSteps};
+ghost use Rattle.core_medium.specs.MachineLaws.{LawOfWholeCalls, LawOfPageReads};
 
 /// There is a medium to start with.
 pub fn law_of_start()

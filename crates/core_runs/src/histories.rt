@@ -1,8 +1,8 @@
 //! Histories of steps of running transactions, from a new table on.
 
-ghost use Rattle.std.specs.Prelude.{◌≡◌, IfOk, OnOk};
-ghost use Rattle.core_table.specs.Seats.{opener};
 ghost use Rattle.core_runs.specs.Views.{Stands, two, told_all, one_write, entered, settled};
+ghost use Rattle.core_table.specs.Seats.{opener};
+ghost use Rattle.std.specs.Prelude.{◌≡◌, IfOk, OnOk};
 
 use crate::history::{Small, begin, begin_again, empty, own, publish, read, read_again, settle};
 use crate::others::{drop_page, give_back};

@@ -1,7 +1,7 @@
 //! A short history: a thread reads a word, writes it, and settles its record.
 
-ghost use Rattle.std.specs.Prelude.{◌≡◌, OnOk};
 ghost use Rattle.core_runs.specs.Views.{Stands, one_write, entered, looked, read_out, ready, decided, posted, emptied, settled, joined, read_back};
+ghost use Rattle.std.specs.Prelude.{◌≡◌, OnOk};
 
 use crate::trouble::{Trouble, expect};
 use core_table::event_table::Seat;

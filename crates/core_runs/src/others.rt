@@ -1,8 +1,8 @@
 //! The kinds of step that the first history doesn't have: a lock is given back, and a page is
 //! dropped.
 
-ghost use Rattle.std.specs.Prelude.{◌≡◌, OnOk};
 ghost use Rattle.core_runs.specs.Views.{Stands, alone, given_back, dropped};
+ghost use Rattle.std.specs.Prelude.{◌≡◌, OnOk};
 
 use crate::history::Small;
 use crate::trouble::{Trouble, expect};

@@ -1,7 +1,7 @@
 //! A table that no thread shares any more.
 
-ghost use Rattle.std.specs.Mem.Slots.{slots_items, slots_len, IsFull};
 ghost use Rattle.core_table.specs.Steps.{BelongsTo, HasCounts, EndsWith};
+ghost use Rattle.std.specs.Mem.Slots.{slots_items, slots_len, IsFull};
 
 use crate::event_table::{EventTable, Seat};
 use crate::slot_rule::SlotRule;

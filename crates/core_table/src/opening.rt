@@ -1,10 +1,10 @@
 //! A table is made, with the words of the state at the start.
 
-ghost use Rattle.std.specs.Prelude.{◌≡◌, ◌+◌, ◌*◌, ◌≤◌, ◌^◌, ◌++◌, replicate, IfOk, IfErr, OnOk, if◌then◌else◌, ltb};
-ghost use Rattle.core_events.specs.Setups.{IsSetup, entry_with};
 ghost use Rattle.core_events.specs.Partings.{first_entries, start};
+ghost use Rattle.core_events.specs.Setups.{IsSetup, entry_with};
 ghost use Rattle.core_table.specs.Places.{flat};
 ghost use Rattle.core_table.specs.Steps.{MayOpen, IsOpened};
+ghost use Rattle.std.specs.Prelude.{◌≡◌, ◌+◌, ◌*◌, ◌≤◌, ◌^◌, ◌++◌, replicate, IfOk, IfErr, OnOk, if◌then◌else◌, ltb};
 
 use crate::event_table::{EventTable, Opened};
 use crate::places::ENTRY;

@@ -1,9 +1,9 @@
 //! The steps on pages and frames.
 
-ghost use Rattle.std.specs.Prelude.{◌≡◌, Some};
-ghost use Rattle.core_events.specs.Keyed.{find};
 ghost use Rattle.core_events.specs.Events.{entry, evict, fill, load_touch, pin, show, touch, unpin};
+ghost use Rattle.core_events.specs.Keyed.{find};
 ghost use Rattle.core_table.specs.Steps.{MayStep, IsForeseen, StepFinds, StepMakes};
+ghost use Rattle.std.specs.Prelude.{◌≡◌, Some};
 
 use crate::event_table::Seat;
 use crate::places::ENTRY;

@@ -1,9 +1,9 @@
 //! A seat is split in two, and two seats are joined.
 
-ghost use Rattle.std.specs.Prelude.{◌≡◌, []};
 ghost use Rattle.core_table.specs.Rules.{OutlastsSplit, OutlastsJoin};
 ghost use Rattle.core_table.specs.Seats.{CanSplit, CanJoin, known_left, known_both};
 ghost use Rattle.core_table.specs.Steps.{BelongsTo, IsSplitOff, NowKnows};
+ghost use Rattle.std.specs.Prelude.{◌≡◌, []};
 
 use crate::cut::Cut;
 use crate::event_table::{EventTable, Seat};

@@ -1,11 +1,11 @@
 //! The steps of a transaction that reads.
 
-ghost use Rattle.std.specs.Prelude.{◌≡◌, Some};
-ghost use Rattle.core_events.specs.Setups.{page_of};
-ghost use Rattle.core_events.specs.Keyed.{find};
-ghost use Rattle.core_table.specs.Abouts.{finishing};
 ghost use Rattle.core_events.specs.Events.{begin, check, extend, load, look, number};
+ghost use Rattle.core_events.specs.Keyed.{find};
+ghost use Rattle.core_events.specs.Setups.{page_of};
+ghost use Rattle.core_table.specs.Abouts.{finishing};
 ghost use Rattle.core_table.specs.Steps.{MayStep, StepFinds};
+ghost use Rattle.std.specs.Prelude.{◌≡◌, Some};
 
 use crate::event_table::Seat;
 use crate::places::{CLOCK, THREADS};

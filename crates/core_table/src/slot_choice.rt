@@ -5,11 +5,11 @@ use std::marker::Brand;
 /// The event that a step is where it moves slots or changes what is kept beside the view, the
 /// setup, and what the step tells. Each call picks them.
 pub trait SlotChoice<S, X> {
-    ghost use Rattle.std.specs.Prelude.{ℕ};
     ghost use Rattle.atomic_table.specs.Table.{Me};
-    ghost use Rattle.core_events.specs.Setups.{Setup};
     ghost use Rattle.core_events.specs.Events.{Event};
+    ghost use Rattle.core_events.specs.Setups.{Setup};
     ghost use Rattle.core_table.specs.Known.{Known};
+    ghost use Rattle.std.specs.Prelude.{ℕ};
 
     ghost setup: { Setup };
 

@@ -6,10 +6,10 @@ use crate::terms::Terms;
 /// What the key of a table sets up, and what a user of the table keeps of its slots, and beside
 /// the views.
 pub trait SlotRule<S, X, K> {
-    ghost use Rattle.std.specs.Prelude.{List};
-    ghost use mathlib.Core.Option.{Option};
     ghost use Rattle.core_events.specs.Setups.{Setup};
     ghost use Rattle.core_events.specs.Words.{State};
+    ghost use Rattle.std.specs.Prelude.{List};
+    ghost use mathlib.Core.Option.{Option};
 
     /// What the machine is set up with, by the key of the table.
     ghost setup: { K → Setup };

@@ -1,10 +1,10 @@
 //! The atomic steps that move slots, each once for any event that is a step of its form, and the
 //! change of a slot that a seat took.
 
-ghost use Rattle.std.specs.Prelude.{◌≡◌, ◌==◌, ◌∷◌};
-ghost use prog.Atomic.{either};
 ghost use Rattle.atomic_table.specs.Table.{rest};
 ghost use Rattle.core_table.specs.Steps.{MayAct, IsForeseen, StepsAt, WordBecomes, WordRises, IsSameSeat, HasSlot};
+ghost use Rattle.std.specs.Prelude.{◌≡◌, ◌==◌, ◌∷◌};
+ghost use prog.Atomic.{either};
 
 use crate::event_table::{EventTable, Seat};
 use crate::plays::{DoesWithSlots, PutsWithSlots};

@@ -1,8 +1,8 @@
 //! The atomic steps, each once, for any event that is a step of its form.
 
+ghost use Rattle.core_table.specs.Steps.{MayStepAt, WordBecomes, WordRises, WordFalls, IsBlind, StepFinds, StepMakes};
 ghost use Rattle.std.specs.Prelude.{◌==◌, max};
 ghost use prog.Atomic.{either};
-ghost use Rattle.core_table.specs.Steps.{MayStepAt, WordBecomes, WordRises, WordFalls, IsBlind, StepFinds, StepMakes};
 
 use crate::choice::Choice;
 use crate::event_table::{EventTable, Seat};

@@ -1,10 +1,10 @@
 //! A table is made, seats are split and joined, and the table is closed.
 
-ghost use Rattle.std.specs.Prelude.{◌≡◌, [], IfOk, IfErr};
-ghost use Rattle.std.specs.Mem.Slots.{slots_items, slots_len, IsFull};
 ghost use Rattle.core_table.specs.Rules.{OutlastsSplit, OutlastsJoin};
 ghost use Rattle.core_table.specs.Seats.{CanSplit, CanJoin, known_left, known_both};
 ghost use Rattle.core_table.specs.Steps.{BelongsTo, MayOpen, IsOpened, IsSplitOff, NowKnows, HasCounts, EndsWith};
+ghost use Rattle.std.specs.Mem.Slots.{slots_items, slots_len, IsFull};
+ghost use Rattle.std.specs.Prelude.{◌≡◌, [], IfOk, IfErr};
 
 use crate::event_table::{EventTable, Opened, Seat};
 use crate::slot_rule::SlotRule;

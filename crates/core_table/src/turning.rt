@@ -1,8 +1,8 @@
 //! The steps on boxes, and those of the turn.
 
-ghost use Rattle.std.specs.Prelude.{◌≡◌, Some};
 ghost use Rattle.core_events.specs.Events.{empty_box, give_turn, post, raise_durable, raise_reproduced, see_box, see_full, take_turn};
 ghost use Rattle.core_table.specs.Steps.{MayStep, IsForeseen, StepFinds, StepMakes};
+ghost use Rattle.std.specs.Prelude.{◌≡◌, Some};
 
 use crate::event_table::Seat;
 use crate::places::{DURABLE, REPRODUCED, TURN};

@@ -1,12 +1,12 @@
 //! The steps of a transaction that writes.
 
-ghost use Rattle.std.specs.Prelude.{◌≡◌, ◌<◌, Some};
-ghost use Rattle.dude_base.specs.Writes.{written};
-ghost use Rattle.core_events.specs.Setups.{page_of};
-ghost use Rattle.core_events.specs.Keyed.{find};
-ghost use Rattle.core_table.specs.Abouts.{drawing};
 ghost use Rattle.core_events.specs.Events.{decide, release, restore, store, take, first_lock};
+ghost use Rattle.core_events.specs.Keyed.{find};
+ghost use Rattle.core_events.specs.Setups.{page_of};
+ghost use Rattle.core_table.specs.Abouts.{drawing};
 ghost use Rattle.core_table.specs.Steps.{MayStep, StepFinds, StepMakes};
+ghost use Rattle.dude_base.specs.Writes.{written};
+ghost use Rattle.std.specs.Prelude.{◌≡◌, ◌<◌, Some};
 
 use crate::event_table::Seat;
 use crate::places::CLOCK;

@@ -4,8 +4,8 @@
 //! standard error each number up to which all is durable. Where that is a terminal, a load shows its progress there instead.
 #![tactic(auto)]
 
-ghost use Rattle.std.specs.Prelude.{◌≡◌, ◌⊎◌, Some};
 ghost use Rattle.command_edges.specs.Fault.{status_of};
+ghost use Rattle.std.specs.Prelude.{◌≡◌, ◌⊎◌, Some};
 
 mod driving;
 mod grouped;

@@ -1,9 +1,9 @@
 //! The lines that a run of files has.
 
-ghost use Rattle.std.specs.Prelude.{◌≡◌, IfOk};
-ghost use Rattle.dude_audit.specs.Claim.{claimed_request_of};
-ghost use Rattle.tatp_model.specs.Files.{requests_in};
 ghost use Rattle.dude_audit.specs.Blanks.{AreBlanks};
+ghost use Rattle.dude_audit.specs.Claim.{claimed_request_of};
+ghost use Rattle.std.specs.Prelude.{◌≡◌, IfOk};
+ghost use Rattle.tatp_model.specs.Files.{requests_in};
 
 use crate::claim::Claim;
 use std::alloc::{AllocError, Global};

@@ -1,7 +1,7 @@
 //! What a printed line says of a request.
 
-ghost use Rattle.std.specs.Prelude.{◌≡◌};
 ghost use Rattle.dude_audit.specs.Claim.{claims_sync};
+ghost use Rattle.std.specs.Prelude.{◌≡◌};
 
 use tatp_model::Request;
 

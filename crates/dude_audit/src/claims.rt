@@ -1,10 +1,10 @@
 //! The verdict on the lines of a printed run.
 
-ghost use Rattle.std.specs.Prelude.{◌≡◌, ◌≤◌, ◌↔◌, AllPairs, IfOk, IsTrue, not, filter, length};
-ghost use Rattle.tatp_model.specs.Database.{database_of, IsInOrder};
 ghost use Rattle.dude_audit.specs.Claim.{claims_sync};
 ghost use Rattle.dude_audit.specs.Order.{AreApart, AreOfRun, IsClaimOrder};
 ghost use Rattle.dude_audit.specs.Verdict.{IsLastOf, HasVerdict};
+ghost use Rattle.std.specs.Prelude.{◌≡◌, ◌≤◌, ◌↔◌, AllPairs, IfOk, IsTrue, not, filter, length};
+ghost use Rattle.tatp_model.specs.Database.{database_of, IsInOrder};
 
 use crate::Claim;
 use crate::copy::copied;

@@ -1,11 +1,11 @@
 //! The audit of a printed run.
 
+ghost use Rattle.dude_audit.specs.PrintedRun.{IsRunOf, IsVerdictOn};
+ghost use Rattle.dude_audit.specs.declared.verdict.Verdict.TheVariants.{Yes};
 ghost use Rattle.std.specs.Prelude.{◌≡◌, ◌≤◌, ◌↔◌, All, IfOk, length};
 ghost use Rattle.tatp_model.specs.Database.{database_of, IsInOrder};
-ghost use Rattle.tatp_model.specs.Request.{IsInRange};
 ghost use Rattle.tatp_model.specs.Files.{requests_in};
-ghost use Rattle.dude_audit.specs.declared.verdict.Verdict.TheVariants.{Yes};
-ghost use Rattle.dude_audit.specs.PrintedRun.{IsRunOf, IsVerdictOn};
+ghost use Rattle.tatp_model.specs.Request.{IsInRange};
 
 use crate::claims::audit_claims;
 use crate::verdict::Verdict;

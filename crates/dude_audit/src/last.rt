@@ -1,7 +1,7 @@
 //! The last line.
 
-ghost use Rattle.std.specs.Prelude.{◌≡◌, ◌↔◌, IsTrue, IfSome, IfNone, take, codes};
 ghost use Rattle.dude_audit.specs.Last.{BeginsWithLast, BeginsWithNoLast};
+ghost use Rattle.std.specs.Prelude.{◌≡◌, ◌↔◌, IsTrue, IfSome, IfNone, take, codes};
 
 use crate::bytes::{find_byte, numeral};
 

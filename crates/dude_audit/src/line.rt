@@ -1,7 +1,7 @@
 //! A line.
 
-ghost use Rattle.std.specs.Prelude.{IfSome, IfNone};
 ghost use Rattle.dude_audit.specs.Line.{BeginsWithLine, BeginsWithNoLine};
+ghost use Rattle.std.specs.Prelude.{IfSome, IfNone};
 
 use crate::bytes::{find_byte, numeral};
 

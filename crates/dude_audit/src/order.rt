@@ -1,7 +1,7 @@
 //! The printed order.
 
-ghost use Rattle.std.specs.Prelude.{AllPairs, IsPermutation};
 ghost use Rattle.dude_audit.specs.Order.{AreApart, ClaimPrecedes};
+ghost use Rattle.std.specs.Prelude.{AllPairs, IsPermutation};
 
 use crate::Claim;
 

@@ -1,8 +1,8 @@
 //! A request's line.
 
-ghost use Rattle.std.specs.Prelude.{◌≡◌, ◌≤◌, ◌↔◌, true, IsTrue, IfSome, IfNone, length, drop, codes};
 ghost use Rattle.dude_audit.specs.Claim.{claims_sync, may_write};
 ghost use Rattle.dude_audit.specs.Reading.{IsReadAt, BeginsFor};
+ghost use Rattle.std.specs.Prelude.{◌≡◌, ◌≤◌, ◌↔◌, true, IsTrue, IfSome, IfNone, length, drop, codes};
 
 use crate::claim::Claim;
 use crate::line::read_line;

@@ -1,9 +1,9 @@
 //! The rules of the numbers.
 
-ghost use Rattle.std.specs.Prelude.{◌≡◌, ◌≤◌, All, AllPairs, IfOk, OnOk, IfSome, IfNone, true, false, not, nat_eq, if◌then◌else◌};
-ghost use Rattle.std.specs.HashSet.{contains};
 ghost use Rattle.dude_audit.specs.Claim.{claims_sync};
 ghost use Rattle.dude_audit.specs.Rules.{within_bounds, repeats, LearnsFrom, AreRuled, IsFirstBroken};
+ghost use Rattle.std.specs.HashSet.{contains};
+ghost use Rattle.std.specs.Prelude.{◌≡◌, ◌≤◌, All, AllPairs, IfOk, OnOk, IfSome, IfNone, true, false, not, nat_eq, if◌then◌else◌};
 
 use crate::Claim;
 use std::alloc::{AllocError, Global};

@@ -1,10 +1,10 @@
 //! The replies along the printed order.
 
+ghost use Rattle.dude_audit.specs.Claim.{IsWithin, text_of};
+ghost use Rattle.dude_audit.specs.Walk.{TextsAlong, IsFirstWrong};
 ghost use Rattle.std.specs.Prelude.{◌≡◌, ◌≤◌, ◌↔◌, IsTrue, All, IfOk, IfSome, IfNone, length};
 ghost use Rattle.tatp_model.specs.Database.{database_of, IsInOrder};
 ghost use Rattle.tatp_model.specs.Request.{IsInRange};
-ghost use Rattle.dude_audit.specs.Claim.{IsWithin, text_of};
-ghost use Rattle.dude_audit.specs.Walk.{TextsAlong, IsFirstWrong};
 
 use crate::Claim;
 use std::alloc::{AllocError, Global};

@@ -1,10 +1,10 @@
 //! What the log has for consecutive numbers.
 
-ghost use Rattle.std.specs.Prelude.{◌≡◌, ◌<◌, ◌≤◌, ◌↔◌, All, IsTrue, length, slice_get, OnOk, OnErr, IfErr, IfSome, IfNone};
-ghost use Rattle.dude_base.specs.declared.limits.TheConstants.{MAX_BUNDLE_WRITES as MOST_WRITES};
 ghost use Rattle.dude_base.specs.Joins.{CanJoin, LawOfJoining, Refuses, places_of};
 ghost use Rattle.dude_base.specs.Records.{IsBundle, bundle_of, first_of, with_next};
 ghost use Rattle.dude_base.specs.Writes.{overwritten};
+ghost use Rattle.dude_base.specs.declared.limits.TheConstants.{MAX_BUNDLE_WRITES as MOST_WRITES};
+ghost use Rattle.std.specs.Prelude.{◌≡◌, ◌<◌, ◌≤◌, ◌↔◌, All, IsTrue, length, slice_get, OnOk, OnErr, IfErr, IfSome, IfNone};
 
 use crate::limits::{MAX_BUNDLE_WRITES, MAX_SPAN};
 use crate::no_join::NoJoin;
@@ -23,9 +23,9 @@ pub struct Bundle {
 }
 
 impl Model for Bundle {
-    ghost use Rattle.std.specs.Prelude.{◌≤◌};
-    ghost use Rattle.dude_base.specs.declared.limits.TheConstants.{MAX_SPAN};
     ghost use Rattle.dude_base.specs.Records.{RedoBundle};
+    ghost use Rattle.dude_base.specs.declared.limits.TheConstants.{MAX_SPAN};
+    ghost use Rattle.std.specs.Prelude.{◌≤◌};
 
     ghost Value = { RedoBundle };
 

@@ -15,8 +15,8 @@ pub enum NoJoin {
 }
 
 impl fmt::Display for NoJoin {
-    ghost use Rattle.std.specs.Prelude.{Some};
     ghost use Rattle.dude_base.specs.Texts.{no_join_words};
+    ghost use Rattle.std.specs.Prelude.{Some};
 
     ghost output = { λ fault. Some (no_join_words fault) };
 

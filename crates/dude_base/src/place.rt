@@ -1,8 +1,8 @@
 //! Where the parts of an image stand.
 
-ghost use Rattle.std.specs.Prelude.{◌≡◌, ◌<◌, ◌≤◌, ◌+◌, ◌*◌};
 ghost use Rattle.dude_base.specs.Image.{cell_at, cell_start, home_word, image_words};
 ghost use Rattle.dude_base.specs.Sizes.{IsAccepted};
+ghost use Rattle.std.specs.Prelude.{◌≡◌, ◌<◌, ◌≤◌, ◌+◌, ◌*◌};
 
 use crate::limits::{HEADER, LINE, PAGE};
 use crate::sizes::Sizes;
@@ -15,8 +15,8 @@ pub struct Place {
 }
 
 impl Model for Place {
-    ghost use Rattle.dude_base.specs.declared.sizes.Sizes.{Sizes};
     ghost use Rattle.dude_base.specs.Place.{IsPlace};
+    ghost use Rattle.dude_base.specs.declared.sizes.Sizes.{Sizes};
 
     ghost Value = { Sizes };
 

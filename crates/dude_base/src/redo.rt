@@ -1,8 +1,8 @@
 //! The redo record of a transaction.
 
-ghost use Rattle.std.specs.Prelude.{◌≡◌, ◌<◌, ◌↔◌, [], length, slice_get, All, OnOk, OnErr, IsErr};
 ghost use Rattle.dude_base.specs.Records.{with_write};
 ghost use Rattle.dude_base.specs.Writes.{overwritten, IsWide, IsWriteList};
+ghost use Rattle.std.specs.Prelude.{◌≡◌, ◌<◌, ◌↔◌, [], length, slice_get, All, OnOk, OnErr, IsErr};
 
 use crate::wide::Wide;
 use crate::write::Write;

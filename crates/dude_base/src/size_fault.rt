@@ -11,8 +11,8 @@ pub struct SizeFault {
 }
 
 impl fmt::Display for SizeFault {
-    ghost use Rattle.std.specs.Prelude.{Some};
     ghost use Rattle.dude_base.specs.Texts.{field_words};
+    ghost use Rattle.std.specs.Prelude.{Some};
 
     ghost output = { λ fault. Some (field_words fault.field) };
 

@@ -8,8 +8,8 @@ use std::fmt;
 pub struct Wide;
 
 impl fmt::Display for Wide {
-    ghost use Rattle.std.specs.Prelude.{Some};
     ghost use Rattle.dude_base.specs.Texts.{wide_words};
+    ghost use Rattle.std.specs.Prelude.{Some};
 
     ghost output = { λ _. Some wide_words };
 

@@ -1,8 +1,8 @@
 //! Lists of writes of different words, which take no memory.
 
-ghost use Rattle.std.specs.Prelude.{◌≡◌, ◌≢◌, ◌<◌, ◌↔◌, [], ◌∷◌, ◌++◌, length, slice_get, slice_set, All, OnOk, OnErr, IsErr, IfSome, IfNone};
-ghost use Rattle.std.specs.List.{HoldsAt};
 ghost use Rattle.dude_base.specs.Writes.{written, put_write, overwritten, IsIndexOf, IsTooMany, AreWrites};
+ghost use Rattle.std.specs.List.{HoldsAt};
+ghost use Rattle.std.specs.Prelude.{◌≡◌, ◌≢◌, ◌<◌, ◌↔◌, [], ◌∷◌, ◌++◌, length, slice_get, slice_set, All, OnOk, OnErr, IsErr, IfSome, IfNone};
 
 use crate::limits::{MAX_BUNDLE_WRITES, MAX_WRITES};
 use crate::wide::Wide;
@@ -28,8 +28,8 @@ pub type WriteList = Writes<TRANSACTION_WRITES>;
 pub type BundleWrites = Writes<BUNDLE_WRITES>;
 
 impl<const MOST: usize> Model for Writes<MOST> {
-    ghost use Rattle.std.specs.Prelude.{List, take};
     ghost use Rattle.dude_base.specs.declared.write.Write.{Write};
+    ghost use Rattle.std.specs.Prelude.{List, take};
 
     ghost Value = { List Write };
 

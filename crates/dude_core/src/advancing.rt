@@ -1,11 +1,11 @@
 //! What becomes of a view by its events.
 
-ghost use Rattle.std.specs.Prelude.{◌≡◌};
-ghost use Rattle.core_events.specs.Events.{name};
 ghost use Rattle.core_events.specs.Conditions.{May};
+ghost use Rattle.core_events.specs.Events.{name};
 ghost use Rattle.core_events.specs.Telling.{IsSeated, WordTold};
-ghost use Rattle.dude_core.specs.Named.{word_of, event_of};
 ghost use Rattle.dude_core.specs.Moves.{Advances};
+ghost use Rattle.dude_core.specs.Named.{word_of, event_of};
+ghost use Rattle.std.specs.Prelude.{◌≡◌};
 
 use crate::deed::Deed;
 use crate::paging::page;

@@ -1,7 +1,7 @@
 //! What an event does with the record of a box.
 
-ghost use Rattle.dude_core.specs.Named.{event_of, of_turn};
 ghost use Rattle.dude_core.specs.BoxEvents.{IsBoxEvent};
+ghost use Rattle.dude_core.specs.Named.{event_of, of_turn};
 
 use crate::deed::{Deed, TurnDeed};
 

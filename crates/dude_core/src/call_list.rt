@@ -1,7 +1,7 @@
 //! Lists of calls on a medium, call by call.
 
-ghost use Rattle.std.specs.Prelude.{◌≡◌, ◌<◌, List, Some, length, slice_get};
 ghost use Rattle.pmem_trait.specs.declared.call.Call.{Call as Made};
+ghost use Rattle.std.specs.Prelude.{◌≡◌, ◌<◌, List, Some, length, slice_get};
 
 use pmem_trait::Call;
 

@@ -1,9 +1,9 @@
 //! The writes of waiting bundles that lead from one number to another.
 
-ghost use Rattle.std.specs.Prelude.{◌≡◌, ◌+◌, ◌≤◌, ◌++◌, MatchBool, length};
 ghost use Rattle.dude_base.specs.Writes.{HasDistinctPlaces};
-ghost use Rattle.redo_record.specs.Waiting.{IsEnd};
 ghost use Rattle.dude_core.specs.Chains.{CanChain, HasTaken};
+ghost use Rattle.redo_record.specs.Waiting.{IsEnd};
+ghost use Rattle.std.specs.Prelude.{◌≡◌, ◌+◌, ◌≤◌, ◌++◌, MatchBool, length};
 
 use crate::leading::bundle_behind;
 use crate::waiting_bundle::WaitingBundle;

@@ -15,8 +15,8 @@ pub enum CoreFault {
 }
 
 impl fmt::Display for CoreFault {
-    ghost use Rattle.std.specs.Prelude.{Some};
     ghost use Rattle.dude_core.specs.Texts.{fault_words};
+    ghost use Rattle.std.specs.Prelude.{Some};
 
     ghost output = { λ fault. Some (fault_words fault) };
 
@@ -36,8 +36,8 @@ impl fmt::Display for CoreFault {
 impl Error for CoreFault {}
 
 impl From<AllocError> for CoreFault {
-    ghost use Rattle.std.specs.Prelude.{◌≡◌};
     ghost use Rattle.dude_core.specs.declared.core_fault.CoreFault.TheVariants.{NoMemory};
+    ghost use Rattle.std.specs.Prelude.{◌≡◌};
 
     ghost from_gives = { λ _ fault. fault ≡ NoMemory };
 

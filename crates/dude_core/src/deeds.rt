@@ -1,8 +1,8 @@
 //! Events as those that a view makes by itself, a group at a time.
 
-ghost use Rattle.std.specs.Prelude.{◌≡◌, ◌≢◌, IfSome, IfNone};
 ghost use Rattle.dude_core.specs.Named.{event_of, of_read, of_write, of_turn, of_page};
 ghost use Rattle.dude_core.specs.Steps.{IsEventOf, IsMadeIn, group_of, other_group, reading, writing, turning, paging};
+ghost use Rattle.std.specs.Prelude.{◌≡◌, ◌≢◌, IfSome, IfNone};
 
 use crate::about::About;
 use crate::deed::{Deed, PageDeed, ReadDeed, TurnDeed, WriteDeed};

@@ -1,13 +1,13 @@
 //! One call on the medium.
 
-ghost use Rattle.std.specs.Prelude.{◌≡◌, ◌↔◌, ◌+◌, ◌*◌, ◌^◌, ◌<◌, ◌≤◌, All, AllPairs, OnOk, OnErr, IsErrOf, length};
-ghost use Rattle.dude_base.specs.declared.limits.TheConstants.{PAGE as PAGE_WORDS};
-ghost use Rattle.dude_base.specs.Records.{HasNumbers};
 ghost use Rattle.core_medium.specs.KeptStore.{MachineKept};
-ghost use Rattle.dude_core.specs.Effects.{reads_page, replays, appends, called, rested};
-ghost use Rattle.dude_core.specs.Stands.{machine_over};
-ghost use Rattle.dude_core.specs.MadeCalls.{made_by, HasMade, MakesNone, refused_as};
+ghost use Rattle.dude_base.specs.Records.{HasNumbers};
+ghost use Rattle.dude_base.specs.declared.limits.TheConstants.{PAGE as PAGE_WORDS};
 ghost use Rattle.dude_core.specs.Chains.{writes_in};
+ghost use Rattle.dude_core.specs.Effects.{reads_page, replays, appends, called, rested};
+ghost use Rattle.dude_core.specs.MadeCalls.{made_by, HasMade, MakesNone, refused_as};
+ghost use Rattle.dude_core.specs.Stands.{machine_over};
+ghost use Rattle.std.specs.Prelude.{◌≡◌, ◌↔◌, ◌+◌, ◌*◌, ◌^◌, ◌<◌, ◌≤◌, All, AllPairs, OnOk, OnErr, IsErrOf, length};
 
 use crate::core_refusal::CoreRefusal;
 use crate::gathered::Gathered;

@@ -1,6 +1,5 @@
 //! The event that makes one call on the medium.
 
-ghost use Rattle.std.specs.Prelude.{◌≡◌, ◌≤◌, OnOk, OnErr};
 ghost use Rattle.core_events.specs.Views.{View as Seen};
 ghost use Rattle.core_medium.specs.KeptStore.{MachineKept};
 ghost use Rattle.core_medium.specs.Machines.{MachineLeads, device};
@@ -9,6 +8,7 @@ ghost use Rattle.dude_core.specs.MadeCalls.{HasTurnAt};
 ghost use Rattle.dude_core.specs.Named.{Tells};
 ghost use Rattle.dude_core.specs.Stands.{machine_over};
 ghost use Rattle.dude_core.specs.StateSteps.{IsOffOnlyIn};
+ghost use Rattle.std.specs.Prelude.{◌≡◌, ◌≤◌, OnOk, OnErr};
 
 use crate::core_refusal::CoreRefusal;
 use crate::device::make_call;

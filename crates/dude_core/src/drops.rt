@@ -1,12 +1,12 @@
 //! What an event drops of the words read, by the state.
 
-ghost use lib.ListN.{get_elem?};
-ghost use mathlib.Core.Option.{some};
 ghost use Rattle.core_events.specs.Views.{View as Seen};
 ghost use Rattle.dude_core.specs.DroppedReads.{Drops, dropped_from};
 ghost use Rattle.dude_core.specs.Named.{event_of, of_turn, of_page};
 ghost use Rattle.dude_core.specs.Views.{OfView};
 ghost use Rattle.std.specs.Prelude.{◌≡◌, ℕ, List, if◌then◌else◌};
+ghost use lib.ListN.{get_elem?};
+ghost use mathlib.Core.Option.{some};
 
 use crate::deed::{Deed, PageDeed, TurnDeed};
 use crate::dropped::Dropped;

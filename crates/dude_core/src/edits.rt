@@ -1,15 +1,15 @@
 //! What calls on the medium make of the store.
 
-ghost use Rattle.std.specs.Prelude.{◌≡◌, ◌+◌, ◌*◌, ◌<◌, [], All, AllPairs, length, map, OnOk, OnErr};
-ghost use Rattle.std.specs.Prelude.{Some, slice_get, slice_index_or, slice_set};
-ghost use Rattle.dude_base.specs.declared.limits.TheConstants.{PAGE as PAGE_WORDS};
+ghost use Rattle.core_events.specs.Events.{unfilled};
 ghost use Rattle.dude_base.specs.Records.{HasNumbers};
 ghost use Rattle.dude_base.specs.Writes.{overwritten};
-ghost use Rattle.core_events.specs.Events.{unfilled};
+ghost use Rattle.dude_base.specs.declared.limits.TheConstants.{PAGE as PAGE_WORDS};
 ghost use Rattle.dude_core.specs.DroppedReads.{dropped_from};
-ghost use Rattle.dude_core.specs.StoreData.{no_ring};
 ghost use Rattle.dude_core.specs.Effects.{called, rested, added, ring_released};
 ghost use Rattle.dude_core.specs.Effects.{called_by, left_of, appends, replays, reads_page};
+ghost use Rattle.dude_core.specs.StoreData.{no_ring};
+ghost use Rattle.std.specs.Prelude.{Some, slice_get, slice_index_or, slice_set};
+ghost use Rattle.std.specs.Prelude.{◌≡◌, ◌+◌, ◌*◌, ◌<◌, [], All, AllPairs, length, map, OnOk, OnErr};
 
 use crate::dropped::Dropped;
 use crate::logged_bundle::LoggedBundle;

@@ -1,11 +1,11 @@
 //! The lists of the state at its start.
 
-ghost use Rattle.std.specs.Prelude.{◌≡◌, ◌∷◌, [], ◌*◌, ◌≤◌, ◌^◌, replicate, take, length, IfOk, if◌then◌else◌, ltb};
-ghost use Rattle.dude_base.specs.declared.limits.TheConstants.{PAGE as PAGE_WORDS, MAX_NUMBER};
-ghost use Rattle.core_events.specs.Setups.{entry_with};
 ghost use Rattle.core_events.specs.Conditions.{no_record};
 ghost use Rattle.core_events.specs.Partings.{first_entries};
+ghost use Rattle.core_events.specs.Setups.{entry_with};
+ghost use Rattle.dude_base.specs.declared.limits.TheConstants.{PAGE as PAGE_WORDS, MAX_NUMBER};
 ghost use Rattle.dude_core.specs.Views.{first_view};
+ghost use Rattle.std.specs.Prelude.{◌≡◌, ◌∷◌, [], ◌*◌, ◌≤◌, ◌^◌, replicate, take, length, IfOk, if◌then◌else◌, ltb};
 
 use crate::setup::Setup;
 use crate::view::View;

@@ -1,7 +1,7 @@
 //! How calls that were made, and one more, go on a list.
 
-ghost use Rattle.std.specs.Prelude.{IfSome, IfNone};
 ghost use Rattle.dude_core.specs.CallFits.{IsFit, IsFront, IsApart};
+ghost use Rattle.std.specs.Prelude.{IfSome, IfNone};
 
 use crate::call_list::CallList;
 use pmem_trait::Call;

@@ -1,10 +1,10 @@
 //! How waiting bundles lead from one number to others.
 
-ghost use Rattle.std.specs.Prelude.{◌≡◌, ◌≢◌, ◌+◌, All, IfSome, IfNone};
-ghost use Rattle.std.specs.List.{Contains};
 ghost use Rattle.dude_base.specs.Records.{HasNumbers, first_of};
-ghost use Rattle.redo_record.specs.Waiting.{Waiting, AreDisjoint, IsEnd};
 ghost use Rattle.dude_core.specs.Named.{Tells};
+ghost use Rattle.redo_record.specs.Waiting.{Waiting, AreDisjoint, IsEnd};
+ghost use Rattle.std.specs.List.{Contains};
+ghost use Rattle.std.specs.Prelude.{◌≡◌, ◌≢◌, ◌+◌, All, IfSome, IfNone};
 
 use crate::waiting_bundle::WaitingBundle;
 use dude_base::bundle::Bundle;

@@ -1,13 +1,13 @@
 //! The machine: made over home words, read, and led on by one event after another.
 
-ghost use Rattle.std.specs.Prelude.{◌≡◌, ◌≢◌, ◌*◌, ◌≤◌, length, slice_get, option_map, Err, IfOk, IfErr, OnOk, OnErr};
 ghost use Rattle.core_events.specs.Setups.{IsSetup};
 ghost use Rattle.core_medium.specs.KeptStore.{MachineKept};
-ghost use Rattle.dude_core.specs.Memory.{TakesNoMemory};
-ghost use Rattle.dude_core.specs.StateSteps.{IsOffOnlyIn};
 ghost use Rattle.dude_core.specs.CoreState.{CoreState, machine_of, LeadsTo};
 ghost use Rattle.dude_core.specs.MadeCores.{size_fault};
+ghost use Rattle.dude_core.specs.Memory.{TakesNoMemory};
+ghost use Rattle.dude_core.specs.StateSteps.{IsOffOnlyIn};
 ghost use Rattle.dude_core.specs.Steps.{step_of};
+ghost use Rattle.std.specs.Prelude.{◌≡◌, ◌≢◌, ◌*◌, ◌≤◌, length, slice_get, option_map, Err, IfOk, IfErr, OnOk, OnErr};
 
 use crate::core_fault::CoreFault;
 use crate::core_refusal::CoreRefusal;
@@ -49,12 +49,12 @@ impl Model for Core {
 }
 
 impl Core {
-    ghost use Rattle.dude_base.specs.declared.limits.TheConstants.{PAGE as PAGE_WORDS, MAX_NUMBER};
-    ghost use Rattle.dude_base.specs.Sizes.{IsAccepted};
     ghost use Rattle.core_events.specs.Words.{found};
-    ghost use Rattle.dude_core.specs.Named.{Tells};
+    ghost use Rattle.dude_base.specs.Sizes.{IsAccepted};
+    ghost use Rattle.dude_base.specs.declared.limits.TheConstants.{PAGE as PAGE_WORDS, MAX_NUMBER};
     ghost use Rattle.dude_core.specs.CoreWords.{HasWord, word_at};
     ghost use Rattle.dude_core.specs.MadeCores.{IsCoreAt, RefusesSize, IsFaultOf};
+    ghost use Rattle.dude_core.specs.Named.{Tells};
 
     /// The machine at its start over these home words, whose first pages are in frames. Each thread
     /// has a ring of the image for its records: there are at most as many threads as rings.

@@ -1,14 +1,14 @@
 //! Where a view may make an event, by the state and the store.
 
-ghost use Rattle.std.specs.Prelude.{◌≡◌, ◌<◌, ◌≤◌, [], false, Some, slice_index};
-ghost use Rattle.pmem_trait.specs.Words.{IsIn};
-ghost use Rattle.core_events.specs.Keyed.{find};
 ghost use Rattle.core_events.specs.Conditions.{May, IsFree};
+ghost use Rattle.core_events.specs.Keyed.{find};
 ghost use Rattle.core_medium.specs.Machines.{Meets};
 ghost use Rattle.dude_core.specs.Named.{Tells, event_of, of_turn, of_page};
+ghost use Rattle.dude_core.specs.Stands.{store_of, machine_over};
 ghost use Rattle.dude_core.specs.StateSteps.{MayMake};
 ghost use Rattle.dude_core.specs.StoreData.{HasOnMedium};
-ghost use Rattle.dude_core.specs.Stands.{store_of, machine_over};
+ghost use Rattle.pmem_trait.specs.Words.{IsIn};
+ghost use Rattle.std.specs.Prelude.{◌≡◌, ◌<◌, ◌≤◌, [], false, Some, slice_index};
 
 use crate::conditions::may;
 use crate::deed::{Deed, PageDeed, TurnDeed};

@@ -1,11 +1,11 @@
 //! A step on one word by one view.
 
-ghost use Rattle.std.specs.Prelude.{◌≡◌, OnOk, OnErr};
 ghost use Rattle.core_events.specs.Events.{word_after};
 ghost use Rattle.dude_core.specs.Memory.{MayTakeMemory};
 ghost use Rattle.dude_core.specs.Named.{word_of, event_of};
 ghost use Rattle.dude_core.specs.StateSteps.{IsReady, IsMoved};
 ghost use Rattle.dude_core.specs.Views.{OfView, IsNameAt, IsFoundAt, HasAdvanced};
+ghost use Rattle.std.specs.Prelude.{◌≡◌, OnOk, OnErr};
 
 use crate::advancing::advance;
 use crate::deed::Deed;

@@ -1,8 +1,8 @@
 //! The words of the core, by the names of the state.
 
-ghost use Rattle.std.specs.Prelude.{◌≡◌};
-ghost use Rattle.dude_core.specs.Named.{word_of};
 ghost use Rattle.dude_core.specs.CoreWords.{HasWord, word_at};
+ghost use Rattle.dude_core.specs.Named.{word_of};
+ghost use Rattle.std.specs.Prelude.{◌≡◌};
 
 use crate::core_word::CoreWord;
 use crate::setup::Setup;

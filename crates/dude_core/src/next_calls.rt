@@ -1,11 +1,11 @@
 //! Which call of the back a call on the medium goes on with, by the store alone.
 
-ghost use Rattle.std.specs.Prelude.{◌≡◌, ◌≢◌, ◌<◌, ℕ, IfSome, IfNone};
-ghost use Rattle.redo_record.specs.Waiting.{AreDisjoint, IsContiguousEnd};
-ghost use Rattle.redo_record.specs.BackCalls.{announce_calls, read_page_calls};
-ghost use Rattle.dude_core.specs.Named.{Tells};
 ghost use Rattle.dude_core.specs.CallFits.{IsApart};
+ghost use Rattle.dude_core.specs.Named.{Tells};
 ghost use Rattle.dude_core.specs.NextCalls.{ReadsOn, Announces};
+ghost use Rattle.redo_record.specs.BackCalls.{announce_calls, read_page_calls};
+ghost use Rattle.redo_record.specs.Waiting.{AreDisjoint, IsContiguousEnd};
+ghost use Rattle.std.specs.Prelude.{◌≡◌, ◌≢◌, ◌<◌, ℕ, IfSome, IfNone};
 
 use crate::fit::ends_by;
 use crate::leading::{bundle_behind, leads_to};

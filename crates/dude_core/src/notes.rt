@@ -1,8 +1,8 @@
 //! What many events leave in a view.
 
-ghost use Rattle.std.specs.Prelude.{◌≡◌};
 ghost use Rattle.core_events.specs.Events.{noticed, dropped};
 ghost use Rattle.dude_core.specs.Named.{word_of};
+ghost use Rattle.std.specs.Prelude.{◌≡◌};
 
 use crate::view::View;
 use crate::word::Word;

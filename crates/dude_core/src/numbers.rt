@@ -1,7 +1,7 @@
 //! Lists of numbers.
 
-ghost use Rattle.std.specs.Prelude.{◌≡◌, [], ◌∷◌, ◌++◌, OnOk, OnErr, IfOk};
 ghost use Rattle.core_events.specs.Keyed.{has};
+ghost use Rattle.std.specs.Prelude.{◌≡◌, [], ◌∷◌, ◌++◌, OnOk, OnErr, IfOk};
 
 use std::alloc::{AllocError, Global};
 use std::marker::Model;

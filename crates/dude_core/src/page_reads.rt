@@ -16,8 +16,8 @@ pub struct PageReads {
 }
 
 impl PageReads {
-    ghost use Rattle.redo_record.specs.BackCalls.{read_page_calls};
     ghost use Rattle.dude_core.specs.PageReads.{page_list};
+    ghost use Rattle.redo_record.specs.BackCalls.{read_page_calls};
 
     /// The calls that read this page.
     pub fn of(place: &Place, page: u64) -> PageReads

@@ -2,8 +2,8 @@
 
 ghost use Rattle.core_events.specs.Conditions.{May, IsStoredAndTouched};
 ghost use Rattle.core_events.specs.Events.{entry, pin, unpin, touch, load_touch, evict, show};
-ghost use Rattle.dude_core.specs.Named.{Tells, filled, of_page};
 ghost use Rattle.dude_core.specs.Held.{HasSettledIn};
+ghost use Rattle.dude_core.specs.Named.{Tells, filled, of_page};
 
 use crate::deed::PageDeed;
 use crate::filling::Filling;

@@ -1,11 +1,11 @@
 //! What becomes of a view by the events of pages and frames.
 
-ghost use Rattle.std.specs.Prelude.{◌≡◌, ◌<◌, OnOk, OnErr};
-ghost use Rattle.core_events.specs.Setups.{page_of};
-ghost use Rattle.core_events.specs.Events.{entry, pin, load_touch, evict, show, name};
 ghost use Rattle.core_events.specs.Conditions.{May};
-ghost use Rattle.dude_core.specs.Named.{word_of, filled, of_page};
+ghost use Rattle.core_events.specs.Events.{entry, pin, load_touch, evict, show, name};
+ghost use Rattle.core_events.specs.Setups.{page_of};
 ghost use Rattle.dude_core.specs.Moves.{Advances, replaced};
+ghost use Rattle.dude_core.specs.Named.{word_of, filled, of_page};
+ghost use Rattle.std.specs.Prelude.{◌≡◌, ◌<◌, OnOk, OnErr};
 
 use crate::deed::PageDeed;
 use crate::filling::Filling;

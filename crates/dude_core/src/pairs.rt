@@ -1,11 +1,11 @@
 //! Lists of keys with values.
 
-ghost use Rattle.std.specs.Prelude.{◌≡◌, ◌≤◌, ◌^◌, ℕ, true, All, map, ◌↔◌, [], ◌∷◌, ◌++◌, IsTrue, OnOk, OnErr, IfOk};
-ghost use Rattle.core_events.specs.Keyed.{find, without, has};
-ghost use Rattle.core_events.specs.Events.{unfilled, refilled, all_checked, first_lock};
-ghost use Rattle.core_events.specs.Setups.{lock_of, page_of};
 ghost use Rattle.core_events.specs.Conditions.{Keeps, IsFilled};
+ghost use Rattle.core_events.specs.Events.{unfilled, refilled, all_checked, first_lock};
+ghost use Rattle.core_events.specs.Keyed.{find, without, has};
+ghost use Rattle.core_events.specs.Setups.{lock_of, page_of};
 ghost use Rattle.dude_core.specs.Named.{Tells};
+ghost use Rattle.std.specs.Prelude.{◌≡◌, ◌≤◌, ◌^◌, ℕ, true, All, map, ◌↔◌, [], ◌∷◌, ◌++◌, IsTrue, OnOk, OnErr, IfOk};
 
 use crate::numbers::Numbers;
 use crate::setup::Setup;

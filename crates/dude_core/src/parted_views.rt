@@ -1,8 +1,8 @@
 //! Views that are split and joined, in a list of views.
 
-ghost use Rattle.std.specs.Prelude.{◌≡◌, ◌<◌, ◌≢◌, length, OnOk, OnErr};
 ghost use Rattle.core_events.specs.Partings.{spent};
 ghost use Rattle.dude_core.specs.Views.{AreSplit, AreSmallAt, AreJoined};
+ghost use Rattle.std.specs.Prelude.{◌≡◌, ◌<◌, ◌≢◌, length, OnOk, OnErr};
 
 use crate::setup::Setup;
 use crate::view::View;

@@ -1,11 +1,11 @@
 //! Views that are split and joined, on the state.
 
-ghost use Rattle.std.specs.Prelude.{◌≡◌, OnOk, OnErr};
-ghost use Rattle.core_events.specs.Views.{View as Seen};
-ghost use Rattle.core_events.specs.Partings.{MaySplit, MayJoin, Leads, parting, joining};
 ghost use Rattle.core_events.specs.Kept.{Kept};
+ghost use Rattle.core_events.specs.Partings.{MaySplit, MayJoin, Leads, parting, joining};
+ghost use Rattle.core_events.specs.Views.{View as Seen};
 ghost use Rattle.dude_core.specs.Named.{Tells};
 ghost use Rattle.dude_core.specs.StateSteps.{IsOffOnlyAt};
+ghost use Rattle.std.specs.Prelude.{◌≡◌, OnOk, OnErr};
 
 use crate::core_refusal::CoreRefusal;
 use crate::parted_views::{join_into, split_off};

@@ -1,9 +1,9 @@
 //! What becomes of a view by the events of a transaction that reads.
 
-ghost use Rattle.std.specs.Prelude.{◌≡◌, OnOk, OnErr};
 ghost use Rattle.core_events.specs.Events.{begin, extend, load, check, finish, look, name, view_after};
-ghost use Rattle.dude_core.specs.Named.{word_of, of_read};
 ghost use Rattle.dude_core.specs.Moves.{Advances, confirmed, reached, extended, validated};
+ghost use Rattle.dude_core.specs.Named.{word_of, of_read};
+ghost use Rattle.std.specs.Prelude.{◌≡◌, OnOk, OnErr};
 
 use crate::about::About;
 use crate::deed::ReadDeed;

@@ -2,8 +2,8 @@
 
 ghost use Rattle.core_events.specs.Conditions.{May, IsRecheck};
 ghost use Rattle.core_events.specs.Events.{number, begin, extend, look, load, check, finish};
-ghost use Rattle.dude_core.specs.Named.{Tells, of_read};
 ghost use Rattle.dude_core.specs.Held.{WaitsFor};
+ghost use Rattle.dude_core.specs.Named.{Tells, of_read};
 
 use crate::deed::ReadDeed;
 use crate::setup::Setup;

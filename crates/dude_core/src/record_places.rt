@@ -1,7 +1,7 @@
 //! Records by place.
 
-ghost use Rattle.std.specs.Prelude.{◌≡◌, slice_index_or};
 ghost use Rattle.core_events.specs.Conditions.{no_record};
+ghost use Rattle.std.specs.Prelude.{◌≡◌, slice_index_or};
 
 use dude_base::redo::Redo;
 

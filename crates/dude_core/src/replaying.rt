@@ -1,12 +1,12 @@
 //! Which bundles a call on the medium reproduces together.
 
-ghost use Rattle.std.specs.Prelude.{◌≡◌, ◌*◌, ◌<◌, ◌≤◌, ◌∷◌, ℕ, All, IfSome, IfNone};
 ghost use Rattle.dude_base.specs.declared.limits.TheConstants.{PAGE as PAGE_WORDS};
-ghost use Rattle.redo_record.specs.BackCalls.{reproduce_calls};
 ghost use Rattle.dude_core.specs.CallFits.{IsFront, IsApart};
-ghost use Rattle.dude_core.specs.StoreData.{tells};
-ghost use Rattle.dude_core.specs.NextCalls.{AreApartOver, Replays, ReplaysNoneTo};
 ghost use Rattle.dude_core.specs.Chains.{writes_in};
+ghost use Rattle.dude_core.specs.NextCalls.{AreApartOver, Replays, ReplaysNoneTo};
+ghost use Rattle.dude_core.specs.StoreData.{tells};
+ghost use Rattle.redo_record.specs.BackCalls.{reproduce_calls};
+ghost use Rattle.std.specs.Prelude.{◌≡◌, ◌*◌, ◌<◌, ◌≤◌, ◌∷◌, ℕ, All, IfSome, IfNone};
 
 use crate::fit::ends_by;
 use crate::replay_room::ReplayRoom;

@@ -1,10 +1,10 @@
 //! A ring of the log.
 
-ghost use Rattle.std.specs.Prelude.{◌≡◌, ◌+◌, ◌<◌, ◌≤◌, ◌++◌, ◌∷◌, [], All, OnOk, OnErr};
-ghost use Rattle.redo_record.specs.Fits.{cells_used};
+ghost use Rattle.dude_core.specs.Effects.{ring_released};
 ghost use Rattle.dude_core.specs.Named.{Tells};
 ghost use Rattle.dude_core.specs.StoreData.{no_ring};
-ghost use Rattle.dude_core.specs.Effects.{ring_released};
+ghost use Rattle.redo_record.specs.Fits.{cells_used};
+ghost use Rattle.std.specs.Prelude.{◌≡◌, ◌+◌, ◌<◌, ◌≤◌, ◌++◌, ◌∷◌, [], All, OnOk, OnErr};
 
 use crate::logged_bundle::LoggedBundle;
 use std::alloc::{AllocError, Global};

@@ -1,13 +1,13 @@
 //! What the machine of running transactions is set up with, and where its locks, boxes and frame words stand.
 
-ghost use Rattle.std.specs.Prelude.{◌≡◌, slice_index, true, ◌+◌, ◌*◌, ◌<◌, ◌≤◌, ◌^◌, false, length, IfSome, IfNone};
-ghost use Rattle.dude_base.specs.declared.limits.TheConstants.{PAGE as PAGE_WORDS, MAX_NUMBER, MAX_RINGS as MAX_THREADS, MAX_LOCKS as MOST_LOCKS, MAX_BOXES as MOST_BOXES};
+ghost use Rattle.core_events.specs.Events.{place_behind};
+ghost use Rattle.core_events.specs.Setups.{IsSetup, lock_of, cell_of, box_of, entry_with, frame_in, without_pins};
 ghost use Rattle.dude_base.specs.Run.{IsRunWithin};
 ghost use Rattle.dude_base.specs.Sizes.{IsFrom};
-ghost use Rattle.core_events.specs.Setups.{IsSetup, lock_of, cell_of, box_of, entry_with, frame_in, without_pins};
-ghost use Rattle.core_events.specs.Events.{place_behind};
+ghost use Rattle.dude_base.specs.declared.limits.TheConstants.{PAGE as PAGE_WORDS, MAX_NUMBER, MAX_RINGS as MAX_THREADS, MAX_LOCKS as MOST_LOCKS, MAX_BOXES as MOST_BOXES};
 ghost use Rattle.dude_core.specs.Named.{Tells};
 ghost use Rattle.dude_core.specs.RunSetups.{setup_of};
+ghost use Rattle.std.specs.Prelude.{◌≡◌, slice_index, true, ◌+◌, ◌*◌, ◌<◌, ◌≤◌, ◌^◌, false, length, IfSome, IfNone};
 
 use dude_base::limits::{MAX_BOXES, MAX_LOCKS, MAX_RINGS, MIN_FRAMES, PAGE};
 use dude_base::run::Run;
@@ -30,9 +30,9 @@ pub struct Setup {
 }
 
 impl Model for Setup {
-    ghost use Rattle.std.specs.Prelude.{true, false, length, ◌≤◌, ◌^◌};
     ghost use Rattle.core_events.specs.Setups.{Setup};
     ghost use Rattle.dude_core.specs.SetupKept.{IsWithinLimits};
+    ghost use Rattle.std.specs.Prelude.{true, false, length, ◌≤◌, ◌^◌};
 
     ghost Value = { Setup };
 

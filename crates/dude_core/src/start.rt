@@ -1,8 +1,8 @@
 //! The state at its start.
 
-ghost use Rattle.std.specs.Prelude.{◌≡◌, IfOk};
-ghost use Rattle.core_events.specs.Setups.{IsSetup};
 ghost use Rattle.core_events.specs.Partings.{start};
+ghost use Rattle.core_events.specs.Setups.{IsSetup};
+ghost use Rattle.std.specs.Prelude.{◌≡◌, IfOk};
 
 use crate::first_lists::{empty_records, first_cells, first_entries, first_views};
 use crate::setup::Setup;

@@ -1,8 +1,8 @@
 //! The state of the machine over vectors, and what its words hold.
 
-ghost use Rattle.std.specs.Prelude.{◌≡◌, slice_index_or};
 ghost use Rattle.core_events.specs.Words.{found, put};
 ghost use Rattle.dude_core.specs.Named.{word_of};
+ghost use Rattle.std.specs.Prelude.{◌≡◌, slice_index_or};
 
 use crate::view::View;
 use crate::word::Word;

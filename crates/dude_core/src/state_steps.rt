@@ -1,20 +1,20 @@
 //! Events and partings of views, on the state.
 
-ghost use Rattle.std.specs.Prelude.{◌≡◌, slice_index_or, slice_set, OnOk, OnErr, IsErrOf};
-ghost use mathlib.Core.Option.{some};
-ghost use lib.ListN.{get_elem?};
-ghost use Rattle.core_events.specs.Views.{View as Seen};
-ghost use Rattle.core_events.specs.Events.{next_box};
 ghost use Rattle.core_events.specs.Conditions.{IsAllowed, record_of, no_record};
-ghost use Rattle.core_events.specs.Partings.{Leads};
+ghost use Rattle.core_events.specs.Events.{next_box};
 ghost use Rattle.core_events.specs.Kept.{Kept};
+ghost use Rattle.core_events.specs.Partings.{Leads};
+ghost use Rattle.core_events.specs.Views.{View as Seen};
 ghost use Rattle.core_medium.specs.KeptStore.{MachineKept};
 ghost use Rattle.core_medium.specs.Machines.{MachineLeads};
 ghost use Rattle.dude_core.specs.Memory.{MayTakeMemory};
 ghost use Rattle.dude_core.specs.Named.{event_of};
-ghost use Rattle.dude_core.specs.StateSteps.{IsOffOnlyIn, event_by, machine_step};
 ghost use Rattle.dude_core.specs.Stands.{machine_over};
+ghost use Rattle.dude_core.specs.StateSteps.{IsOffOnlyIn, event_by, machine_step};
 ghost use Rattle.dude_core.specs.Views.{OfView, HasBoxInside, persisted_from, HasForgotten};
+ghost use Rattle.std.specs.Prelude.{◌≡◌, slice_index_or, slice_set, OnOk, OnErr, IsErrOf};
+ghost use lib.ListN.{get_elem?};
+ghost use mathlib.Core.Option.{some};
 
 use crate::box_event::BoxEvent;
 use crate::core_refusal::CoreRefusal;

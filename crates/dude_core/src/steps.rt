@@ -1,13 +1,13 @@
 //! An event made on the state and its store.
 
-ghost use Rattle.std.specs.Prelude.{◌≡◌, ◌≢◌, ◌≤◌, Err, OnOk, OnErr};
 ghost use Rattle.core_medium.specs.KeptStore.{MachineKept};
 ghost use Rattle.core_medium.specs.Machines.{MachineLeads};
 ghost use Rattle.dude_core.specs.Chains.{writes_in};
 ghost use Rattle.dude_core.specs.Memory.{TakesNoMemory};
-ghost use Rattle.dude_core.specs.StateSteps.{IsOffOnlyIn};
 ghost use Rattle.dude_core.specs.Stands.{machine_over};
+ghost use Rattle.dude_core.specs.StateSteps.{IsOffOnlyIn};
 ghost use Rattle.dude_core.specs.Steps.{step_of};
+ghost use Rattle.std.specs.Prelude.{◌≡◌, ◌≢◌, ◌≤◌, Err, OnOk, OnErr};
 
 use crate::core_refusal::CoreRefusal;
 use crate::deeds::deed_of;

@@ -1,9 +1,9 @@
 //! The store over vectors.
 
-ghost use Rattle.std.specs.Prelude.{◌≡◌, ◌*◌, ◌≤◌, length, replicate, IfOk};
-ghost use Rattle.dude_base.specs.declared.limits.TheConstants.{PAGE as PAGE_WORDS};
 ghost use Rattle.core_events.specs.Setups.{IsSetup};
+ghost use Rattle.dude_base.specs.declared.limits.TheConstants.{PAGE as PAGE_WORDS};
 ghost use Rattle.dude_core.specs.StoreData.{no_ring, start_data};
+ghost use Rattle.std.specs.Prelude.{◌≡◌, ◌*◌, ◌≤◌, length, replicate, IfOk};
 
 use crate::numbers::Numbers;
 use crate::pairs::Pairs;
@@ -34,9 +34,9 @@ pub struct Store {
 }
 
 impl Model for Store {
-    ghost use Rattle.std.specs.Prelude.{take, drop};
-    ghost use Rattle.dude_core.specs.StoreData.{StoreData};
     ghost use Rattle.dude_core.specs.KeptData.{IsKeptStore};
+    ghost use Rattle.dude_core.specs.StoreData.{StoreData};
+    ghost use Rattle.std.specs.Prelude.{take, drop};
 
     ghost Value = { StoreData };
 

@@ -1,15 +1,15 @@
 //! What the store has.
 
-ghost use Rattle.std.specs.Prelude.{◌≡◌, ◌+◌, ◌*◌, ◌<◌, ◌≤◌, ◌↔◌, [], All, IsTrue, length, Some, slice_get};
-ghost use Rattle.dude_base.specs.declared.limits.TheConstants.{PAGE as PAGE_WORDS};
-ghost use Rattle.dude_base.specs.Records.{Covers, HasNumbers};
-ghost use Rattle.pmem_trait.specs.Words.{IsIn};
-ghost use Rattle.redo_record.specs.Fits.{cells_used};
-ghost use Rattle.std.specs.List.{Contains};
-ghost use Rattle.redo_record.specs.Waiting.{Waiting};
 ghost use Rattle.core_events.specs.Keyed.{find};
+ghost use Rattle.dude_base.specs.Records.{Covers, HasNumbers};
+ghost use Rattle.dude_base.specs.declared.limits.TheConstants.{PAGE as PAGE_WORDS};
 ghost use Rattle.dude_core.specs.Named.{Tells};
 ghost use Rattle.dude_core.specs.StoreData.{AreInside, HasOnMedium, ring_at};
+ghost use Rattle.pmem_trait.specs.Words.{IsIn};
+ghost use Rattle.redo_record.specs.Fits.{cells_used};
+ghost use Rattle.redo_record.specs.Waiting.{Waiting};
+ghost use Rattle.std.specs.List.{Contains};
+ghost use Rattle.std.specs.Prelude.{◌≡◌, ◌+◌, ◌*◌, ◌<◌, ◌≤◌, ◌↔◌, [], All, IsTrue, length, Some, slice_get};
 
 use crate::store::Store;
 use crate::waiting_bundle::WaitingBundle;

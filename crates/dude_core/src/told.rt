@@ -1,9 +1,9 @@
 //! Which numbers were told.
 
-ghost use Rattle.std.specs.Prelude.{◌≡◌, ◌<◌, [], ◌∷◌, Some, length, slice_get};
-ghost use Rattle.pmem_trait.specs.Words.{IsIn};
 ghost use Rattle.dude_core.specs.Named.{Tells};
 ghost use Rattle.dude_core.specs.StoreData.{tells, ToldFrom};
+ghost use Rattle.pmem_trait.specs.Words.{IsIn};
+ghost use Rattle.std.specs.Prelude.{◌≡◌, ◌<◌, [], ◌∷◌, Some, length, slice_get};
 
 use crate::store::Store;
 use pmem_trait::Call;

@@ -1,12 +1,12 @@
 //! What becomes of a view by the events of boxes and of the turn.
 
-ghost use Rattle.std.specs.Prelude.{◌≡◌, ◌<◌};
-ghost use Rattle.core_events.specs.Setups.{box_of};
-ghost use Rattle.core_events.specs.Events.{see_box, post, take_turn, give_turn, see_full, name, view_after};
 ghost use Rattle.core_events.specs.Conditions.{May};
+ghost use Rattle.core_events.specs.Events.{see_box, post, take_turn, give_turn, see_full, name, view_after};
+ghost use Rattle.core_events.specs.Setups.{box_of};
 ghost use Rattle.core_events.specs.Telling.{IsSeated};
-ghost use Rattle.dude_core.specs.Named.{word_of, of_turn};
 ghost use Rattle.dude_core.specs.Moves.{Advances};
+ghost use Rattle.dude_core.specs.Named.{word_of, of_turn};
+ghost use Rattle.std.specs.Prelude.{◌≡◌, ◌<◌};
 
 use crate::about::About;
 use crate::deed::TurnDeed;

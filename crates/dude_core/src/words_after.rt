@@ -1,12 +1,12 @@
 //! What an event of a view makes of the word that it finds.
 
-ghost use Rattle.std.specs.Prelude.{◌≡◌, ◌*◌, ◌<◌, ◌≤◌};
-ghost use Rattle.dude_base.specs.declared.limits.TheConstants.{MAX_NUMBER};
-ghost use Rattle.core_events.specs.Events.{take_turn, pin, evict, word_after, thread_of};
 ghost use Rattle.core_events.specs.Conditions.{May};
+ghost use Rattle.core_events.specs.Events.{take_turn, pin, evict, word_after, thread_of};
 ghost use Rattle.core_events.specs.Telling.{IsSeated, WordTold, EntryTold};
-ghost use Rattle.dude_core.specs.Named.{event_of, of_read, of_write, of_turn, of_page};
+ghost use Rattle.dude_base.specs.declared.limits.TheConstants.{MAX_NUMBER};
 ghost use Rattle.dude_core.specs.Moves.{word_taken};
+ghost use Rattle.dude_core.specs.Named.{event_of, of_read, of_write, of_turn, of_page};
+ghost use Rattle.std.specs.Prelude.{◌≡◌, ◌*◌, ◌<◌, ◌≤◌};
 
 use crate::deed::{Deed, PageDeed, ReadDeed, TurnDeed, WriteDeed};
 use crate::setup::Setup;

@@ -1,10 +1,10 @@
 //! Scans over the writes of a number.
 
-ghost use Rattle.std.specs.Prelude.{◌≡◌, true};
-ghost use Rattle.core_events.specs.Setups.{lock_of};
 ghost use Rattle.core_events.specs.Keyed.{has};
-ghost use Rattle.dude_core.specs.Named.{Tells};
+ghost use Rattle.core_events.specs.Setups.{lock_of};
 ghost use Rattle.dude_core.specs.Held.{IsStoredUnder, IsSettledAt, IsSettledIn, WritesIn};
+ghost use Rattle.dude_core.specs.Named.{Tells};
+ghost use Rattle.std.specs.Prelude.{◌≡◌, true};
 
 use crate::numbers::Numbers;
 use crate::setup::Setup;

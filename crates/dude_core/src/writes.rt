@@ -1,9 +1,9 @@
 //! Where a view allows the events of a transaction that writes.
 
-ghost use Rattle.core_events.specs.Events.{take, draw, decide, store, release, restore};
 ghost use Rattle.core_events.specs.Conditions.{May};
-ghost use Rattle.dude_core.specs.Named.{Tells, of_write};
+ghost use Rattle.core_events.specs.Events.{take, draw, decide, store, release, restore};
 ghost use Rattle.dude_core.specs.Held.{Holds, HoldsAll, HasStoredUnder};
+ghost use Rattle.dude_core.specs.Named.{Tells, of_write};
 
 use crate::deed::WriteDeed;
 use crate::setup::Setup;

@@ -1,17 +1,17 @@
 //! The requests of files, run on one thread.
 
-ghost use Rattle.std.specs.Prelude.{◌≡◌, ◌≤◌, [], length, map};
 ghost use Rattle.back_store.specs.BackView.{sight_of};
-ghost use Rattle.dude_recover.specs.Opened.{IsOpened};
-ghost use Rattle.redo_record.specs.Recovery.{AreConsecutive};
-ghost use Rattle.log_numbered.specs.KeptBundles.{are_kept, kept_bundles};
-ghost use Rattle.dude_engine.specs.declared.ran.RanEnd.TheVariants.{Whole};
 ghost use Rattle.dude_engine.specs.OneThread.{RunsFiles};
 ghost use Rattle.dude_engine.specs.Opening.{Opening};
+ghost use Rattle.dude_engine.specs.Plain.{AnswersFiles, EndsAs, IsOpeningOf, RecoversOnTheRun, TellsSyncs};
 ghost use Rattle.dude_engine.specs.Requests.{AreInRange, HasNumberEach};
 ghost use Rattle.dude_engine.specs.Running.{end_by};
 ghost use Rattle.dude_engine.specs.Shipping.{KeepsUp, Ships};
-ghost use Rattle.dude_engine.specs.Plain.{AnswersFiles, EndsAs, IsOpeningOf, RecoversOnTheRun, TellsSyncs};
+ghost use Rattle.dude_engine.specs.declared.ran.RanEnd.TheVariants.{Whole};
+ghost use Rattle.dude_recover.specs.Opened.{IsOpened};
+ghost use Rattle.log_numbered.specs.KeptBundles.{are_kept, kept_bundles};
+ghost use Rattle.redo_record.specs.Recovery.{AreConsecutive};
+ghost use Rattle.std.specs.Prelude.{◌≡◌, ◌≤◌, [], length, map};
 
 use crate::ran::{Ran, RanEnd};
 use crate::run::Run;

@@ -1,15 +1,15 @@
 //! A run on one thread: it serves requests in rounds, logs what they write, and settles at the end.
 
-ghost use Rattle.std.specs.Prelude.{◌≡◌, ◌⊎◌, ◌+◌, ◌<◌, ◌≤◌, [], ◌∷◌, ◌++◌, map, length, All, OnOk, false, vec_capacity};
 ghost use Rattle.dude_base.specs.declared.limits.TheConstants.{MAX_NUMBER};
-ghost use Rattle.tatp_model.specs.declared.request.Request.TheVariants.{Sync};
+ghost use Rattle.dude_engine.specs.Keeping.{LeavesKept};
+ghost use Rattle.dude_engine.specs.Requests.{AreInRange, HasLength, HasNumberEach, request_count};
+ghost use Rattle.dude_engine.specs.Running.{HasRoomToNote, IsAtStart, IsChanging, IsReady, LeavesOn, LeavesRun, MakesRun, MayServeFrom, NotesTurn, NotesUnless, NumbersNoMore, PerformsFiles, SettlesRun, silent_done};
+ghost use Rattle.log_numbered.specs.KeptBundles.{HasRoomToKeep};
+ghost use Rattle.log_numbered.specs.RunLog.{log_durable, log_end, log_last};
+ghost use Rattle.std.specs.Prelude.{◌≡◌, ◌⊎◌, ◌+◌, ◌<◌, ◌≤◌, [], ◌∷◌, ◌++◌, map, length, All, OnOk, false, vec_capacity};
 ghost use Rattle.tatp_model.specs.OneThread.{is_sync};
 ghost use Rattle.tatp_model.specs.Request.{IsInRange};
-ghost use Rattle.log_numbered.specs.RunLog.{log_durable, log_end, log_last};
-ghost use Rattle.log_numbered.specs.KeptBundles.{HasRoomToKeep};
-ghost use Rattle.dude_engine.specs.Requests.{AreInRange, HasLength, HasNumberEach, request_count};
-ghost use Rattle.dude_engine.specs.Keeping.{LeavesKept};
-ghost use Rattle.dude_engine.specs.Running.{HasRoomToNote, IsAtStart, IsChanging, IsReady, LeavesOn, LeavesRun, MakesRun, MayServeFrom, NotesTurn, NotesUnless, NumbersNoMore, PerformsFiles, SettlesRun, silent_done};
+ghost use Rattle.tatp_model.specs.declared.request.Request.TheVariants.{Sync};
 
 use crate::run_fault::RunFault;
 use log_numbered::{KeptBundles, RunLog};

@@ -1,7 +1,7 @@
 //! Why a run ends before its requests do.
 
-ghost use Rattle.std.specs.Prelude.{◌≡◌};
 ghost use Rattle.dude_engine.specs.declared.run_fault.RunFault.TheVariants.{Device, NoMemory};
+ghost use Rattle.std.specs.Prelude.{◌≡◌};
 
 use pmem_trait::Failed;
 use std::alloc::AllocError;

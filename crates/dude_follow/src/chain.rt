@@ -1,11 +1,11 @@
 //! A packet, and the kept ones that follow it.
 
-ghost use Rattle.std.specs.Prelude.{◌≡◌, ◌+◌, All, false, is_ok};
 ghost use Rattle.dude_base.specs.Records.{first_of};
 ghost use Rattle.dude_follow.specs.Applying.{GoesOn};
 ghost use Rattle.dude_follow.specs.Chain.{AppliesChain};
 ghost use Rattle.dude_follow.specs.Packets.{IsPacket};
 ghost use Rattle.dude_follow.specs.Replica.{replica_back, replica_sight};
+ghost use Rattle.std.specs.Prelude.{◌≡◌, ◌+◌, All, false, is_ok};
 
 use crate::reorder_buffer::ReorderBuffer;
 use crate::replica::Replica;

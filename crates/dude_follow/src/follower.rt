@@ -1,14 +1,14 @@
 //! A follower of a shipped log, over any medium.
 
-ghost use Rattle.std.specs.Prelude.{◌≡◌, ◌+◌, ◌≤◌, ◌↔◌, ℕ, List, All, IfErr, IfOk, IsErrOf, OnOk, false, is_ok, length, true};
 ghost use Rattle.dude_base.specs.Records.{first_of};
-ghost use Rattle.pmem_trait.specs.Sights.{Extends, Risen};
-ghost use Rattle.dude_follow.specs.declared.reorder_buffer.TheConstants.{MAX_KEPT};
-ghost use Rattle.dude_follow.specs.declared.follow_fault.FollowFault.TheVariants.{Device, Dead};
-ghost use Rattle.dude_follow.specs.declared.taken.Taken.TheVariants.{Applied};
 ghost use Rattle.dude_follow.specs.Applying.{GoesOn, HoldsArray, IsAtRest};
 ghost use Rattle.dude_follow.specs.Packets.{IsPacket};
 ghost use Rattle.dude_follow.specs.Replica.{replica_back};
+ghost use Rattle.dude_follow.specs.declared.follow_fault.FollowFault.TheVariants.{Device, Dead};
+ghost use Rattle.dude_follow.specs.declared.reorder_buffer.TheConstants.{MAX_KEPT};
+ghost use Rattle.dude_follow.specs.declared.taken.Taken.TheVariants.{Applied};
+ghost use Rattle.pmem_trait.specs.Sights.{Extends, Risen};
+ghost use Rattle.std.specs.Prelude.{◌≡◌, ◌+◌, ◌≤◌, ◌↔◌, ℕ, List, All, IfErr, IfOk, IsErrOf, OnOk, false, is_ok, length, true};
 
 use crate::chain::apply_chain;
 use crate::follow_fault::FollowFault;
@@ -32,8 +32,8 @@ pub struct Follower<M: Medium> {
 
 impl<M: Medium> Follower<M> {
     ghost use Rattle.back_store.specs.BackView.{sight_of};
-    ghost use Rattle.dude_recover.specs.Opened.{HoldsOpened, IsOpened};
     ghost use Rattle.dude_follow.specs.Follower.{AdvancesBy, KeepsParts, StartsOn, StaysSame, TakesPacket, follower_back, follower_medium, follower_room, follower_sight, follower_sizes, follower_state};
+    ghost use Rattle.dude_recover.specs.Opened.{HoldsOpened, IsOpened};
 
     /// A follower over an opened image, with room to keep so many packets. On want of memory the image is given back.
     pub fn new(

@@ -1,10 +1,10 @@
 //! A packet: a bundle as the bytes of its cells, each word as eight bytes, the least first.
 
-ghost use Rattle.std.specs.Prelude.{◌≡◌, ℕ, ◌+◌, ◌*◌, ◌<◌, ◌≤◌, ◌++◌, ◌^◌, All, Decides, IfNone, IfSome, OnErr, OnOk, flat_map, length, slice_index, vec_capacity, vec_len};
-ghost use Rattle.std.specs.Int.{w64, to_le_bytes};
-ghost use Rattle.dude_base.specs.declared.limits.TheConstants.{PAGE};
 ghost use Rattle.dude_base.specs.Records.{HasNumbers};
+ghost use Rattle.dude_base.specs.declared.limits.TheConstants.{PAGE};
 ghost use Rattle.dude_follow.specs.Packet.{BeginsWith, BeginsWithNone, CountsCells, IsInWords, packet_bytes, word_in_bytes};
+ghost use Rattle.std.specs.Int.{w64, to_le_bytes};
+ghost use Rattle.std.specs.Prelude.{◌≡◌, ℕ, ◌+◌, ◌*◌, ◌<◌, ◌≤◌, ◌++◌, ◌^◌, All, Decides, IfNone, IfSome, OnErr, OnOk, flat_map, length, slice_index, vec_capacity, vec_len};
 
 use dude_base::bundle::Bundle;
 use dude_base::limits::{LINE, MAX_BUNDLE_WRITES, PAGE};

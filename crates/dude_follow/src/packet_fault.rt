@@ -1,7 +1,7 @@
 //! Why bytes aren't read as packets.
 
-ghost use Rattle.std.specs.Prelude.{◌≡◌};
 ghost use Rattle.dude_follow.specs.declared.packet_fault.PacketFault.TheVariants.{NoMemory};
+ghost use Rattle.std.specs.Prelude.{◌≡◌};
 
 use std::alloc::AllocError;
 

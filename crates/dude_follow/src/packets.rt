@@ -1,8 +1,8 @@
 //! Packets one behind another, as a list of bytes.
 
-ghost use Rattle.std.specs.Prelude.{◌≡◌, ℕ, Err, IfOk};
-ghost use Rattle.dude_follow.specs.declared.packet_fault.PacketFault.TheVariants.{Bad};
 ghost use Rattle.dude_follow.specs.Packet.{ArePackets, IsBadAt, LawOfPackets};
+ghost use Rattle.dude_follow.specs.declared.packet_fault.PacketFault.TheVariants.{Bad};
+ghost use Rattle.std.specs.Prelude.{◌≡◌, ℕ, Err, IfOk};
 
 use crate::packet::{CELL_BYTES, read_packet};
 use crate::packet_fault::PacketFault;

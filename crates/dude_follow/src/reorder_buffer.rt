@@ -1,10 +1,10 @@
 //! The packets that a follower keeps until those before them come.
 
-ghost use Rattle.std.specs.Prelude.{◌≡◌, ◌≢◌, ◌<◌, ◌≤◌, ◌+◌, ◌↔◌, ℕ, [], ◌∷◌, ◌++◌, length, All, IsTrue, IfOk, IfSome, IfNone, filter, nat_lt, slice_index_or, vec_len, vec_capacity};
-ghost use Rattle.std.specs.List.{Contains};
 ghost use Rattle.dude_base.specs.Records.{RedoBundle, first_of};
-ghost use Rattle.dude_follow.specs.declared.reorder_buffer.TheConstants.{MAX_KEPT};
 ghost use Rattle.dude_follow.specs.Packets.{Share};
+ghost use Rattle.dude_follow.specs.declared.reorder_buffer.TheConstants.{MAX_KEPT};
+ghost use Rattle.std.specs.List.{Contains};
+ghost use Rattle.std.specs.Prelude.{◌≡◌, ◌≢◌, ◌<◌, ◌≤◌, ◌+◌, ◌↔◌, ℕ, [], ◌∷◌, ◌++◌, length, All, IsTrue, IfOk, IfSome, IfNone, filter, nat_lt, slice_index_or, vec_len, vec_capacity};
 
 use crate::verdict::Verdict;
 use dude_base::bundle::Bundle;
@@ -24,8 +24,8 @@ pub struct ReorderBuffer {
 
 impl ReorderBuffer {
     ghost use Rattle.dude_follow.specs.ReorderBuffer.{IsEmptyBuffer, state_at};
-    ghost use Rattle.dude_follow.specs.Verdict.{Judges};
     ghost use Rattle.dude_follow.specs.Taking.{SharesWith};
+    ghost use Rattle.dude_follow.specs.Verdict.{Judges};
 
     /// Nothing is kept; memory is taken for as many packets as there is room for.
     pub fn new(alloc: Global, room: u64) -> Result<ReorderBuffer, AllocError>

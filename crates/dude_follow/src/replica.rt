@@ -1,13 +1,13 @@
 //! The follower's copy of the leader's array: each packet is applied to it at once.
 
-ghost use Rattle.std.specs.Prelude.{◌≡◌, ◌+◌, OnErr, OnOk, [], ◌∷◌, false, is_ok};
-ghost use Rattle.std.specs.List.{Contains};
-ghost use Rattle.dude_base.specs.Records.{RedoBundle, first_of};
-ghost use Rattle.redo_record.specs.Waiting.{Waiting};
 ghost use Rattle.back_store.specs.Back.{waiting_now};
 ghost use Rattle.back_store.specs.BackView.{medium_of, sight_of, state_of};
+ghost use Rattle.dude_base.specs.Records.{RedoBundle, first_of};
 ghost use Rattle.dude_follow.specs.Applying.{AnnouncesAlone, Applies, GoesOn, IsAtRest, PersistsAlone, RecoversThrough, ReproducesAlone, WaitsAlone};
 ghost use Rattle.dude_follow.specs.Packets.{IsPacket};
+ghost use Rattle.redo_record.specs.Waiting.{Waiting};
+ghost use Rattle.std.specs.List.{Contains};
+ghost use Rattle.std.specs.Prelude.{◌≡◌, ◌+◌, OnErr, OnOk, [], ◌∷◌, false, is_ok};
 
 use back_store::{Back, BackFault};
 use dude_base::bundle::Bundle;

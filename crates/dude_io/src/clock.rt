@@ -13,8 +13,8 @@ pub struct Clock {
 }
 
 impl Clock {
-    ghost use Rattle.std.specs.Prelude.{◌≡◌, ◌+◌, ◌-◌, ◌^◌, nat_lt, is_ok, false, if◌then◌else◌};
     ghost use Rattle.pmem_trait.specs.Faults.{faults_after};
+    ghost use Rattle.std.specs.Prelude.{◌≡◌, ◌+◌, ◌-◌, ◌^◌, nat_lt, is_ok, false, if◌then◌else◌};
 
     pub(crate) fn new() -> Self
         ensures now { result.now ≡ 0 }

@@ -1,7 +1,7 @@
 //! Why an image file is not open.
 
-ghost use Rattle.std.specs.Prelude.{◌≡◌};
 ghost use Rattle.dude_io.specs.declared.edge_fault.EdgeFault.TheVariants.{Failed as EdgeFailed, NoMemory};
+ghost use Rattle.std.specs.Prelude.{◌≡◌};
 
 use std::alloc::AllocError;
 use std::io;

@@ -16,9 +16,9 @@ pub struct FailPlan {
 }
 
 impl FailPlan {
-    ghost use Rattle.std.specs.Prelude.{◌≡◌, ◌≤◌, not, false};
-    ghost use Rattle.pmem_trait.specs.Faults.{faults_after};
     ghost use Rattle.dude_io.specs.FailPlan.{is_next_to_fail, CountsCall};
+    ghost use Rattle.pmem_trait.specs.Faults.{faults_after};
+    ghost use Rattle.std.specs.Prelude.{◌≡◌, ◌≤◌, not, false};
 
     pub(crate) fn new(fail: Vec<u64>, chunk: u64) -> Self
         requires { 1 ≤ chunk }

@@ -1,7 +1,7 @@
 //! Why a file has no text.
 
-ghost use Rattle.std.specs.Prelude.{◌≡◌};
 ghost use Rattle.dude_io.specs.declared.file_fault.FileFault.TheVariants.{Failed as FileFailed, NoMemory};
+ghost use Rattle.std.specs.Prelude.{◌≡◌};
 
 use pmem_trait::Failed;
 use std::alloc::AllocError;

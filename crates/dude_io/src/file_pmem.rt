@@ -33,8 +33,8 @@ impl<R: FileSystem + AllocGlobal + Eprint + Drop> FilePmem<R>
 where
     R::File: Lock,
 {
-    ghost use Rattle.std.specs.Prelude.{IfOk};
     ghost use Rattle.dude_io.specs.FilePmem.{IsJustOpened};
+    ghost use Rattle.std.specs.Prelude.{IfOk};
 
     /// Opens the image of this path, and locks it until the medium is dropped. Where there is no file, one of 33,554,432
     /// zero bytes is made, whole or not at all. Bytes behind the last whole word stay as they are. A file that another
@@ -62,10 +62,10 @@ impl<R: FileSystem> FilePmem<R>
 where
     R::File: FileExt,
 {
-    ghost use Rattle.std.specs.Prelude.{◌≡◌, ◌<◌, OnOk, OnErr, IsOk, [], is_ok, false, if◌then◌else◌};
     ghost use Rattle.dude_io.specs.Clock.{CountsOutcome};
     ghost use Rattle.dude_io.specs.FilePmem.{pmem_room, noted_lines, HasLostLines, room_made, notes_left, spill_of, spill_made};
     ghost use Rattle.dude_io.specs.Spill.{spill_fenced};
+    ghost use Rattle.std.specs.Prelude.{◌≡◌, ◌<◌, OnOk, OnErr, IsOk, [], is_ok, false, if◌then◌else◌};
 
     /// Writes the noted lines and syncs the file. Nothing is synced where lines may be lost.
     fn write_and_sync(&mut self) -> io::Result<()>
@@ -128,10 +128,10 @@ impl<R: FileSystem + Eprint> Medium for FilePmem<R>
 where
     R::File: FileExt,
 {
-    ghost use Rattle.std.specs.Prelude.{◌≡◌, ◌+◌, ◌-◌, ◌*◌, ◌<◌, ◌≤◌, is_ok, IfOk, OnOk, OnErr, false, [], slice_index, if◌then◌else◌};
-    ghost use Rattle.pmem_trait.specs.declared.call.Call.TheVariants.{Read, Put, Flush, Fence, Tell};
     ghost use Rattle.dude_io.specs.FilePmem.{pmem_sight, pmem_room, cached_words, noted_lines, room_made, has_moment, HasLostLines, MakesCall, NotesNext, words_put, spill_of, spill_made, spill_left};
+    ghost use Rattle.pmem_trait.specs.declared.call.Call.TheVariants.{Read, Put, Flush, Fence, Tell};
     ghost use Rattle.std.proofs.Common.{rules};
+    ghost use Rattle.std.specs.Prelude.{◌≡◌, ◌+◌, ◌-◌, ◌*◌, ◌<◌, ◌≤◌, is_ok, IfOk, OnOk, OnErr, false, [], slice_index, if◌then◌else◌};
 
     ghost sight = { pmem_sight };
 

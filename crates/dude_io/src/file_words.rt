@@ -1,9 +1,9 @@
 //! The words of a file, of which the last ones may be 0 without being stored.
 
-ghost use Rattle.std.specs.Prelude.{◌≡◌, ◌/◌, ◌++◌, ◌+◌, ◌^◌, ◌<◌, ◌≤◌, IsTrue, length, map, replicate, vec_len, vec_capacity};
-ghost use Rattle.std.specs.Int.{w64, from_le_bytes};
-ghost use Rattle.std.specs.Simd.{first_chunks};
 ghost use Rattle.dude_io.specs.Bytes.{words_in};
+ghost use Rattle.std.specs.Int.{w64, from_le_bytes};
+ghost use Rattle.std.specs.Prelude.{◌≡◌, ◌/◌, ◌++◌, ◌+◌, ◌^◌, ◌<◌, ◌≤◌, IsTrue, length, map, replicate, vec_len, vec_capacity};
+ghost use Rattle.std.specs.Simd.{first_chunks};
 
 use crate::line::{Line, WORDS};
 use std::alloc::{AllocError, Global};
@@ -20,10 +20,10 @@ pub struct FileWords {
 }
 
 impl FileWords {
-    ghost use Rattle.std.specs.Prelude.{◌≡◌, ◌+◌, ◌*◌, ◌/◌, ◌^◌, ◌<◌, ◌≤◌, ◌++◌, [], IfOk, length, slice_index, slice_set, vec_len, vec_capacity};
     ghost use Rattle.dude_io.specs.Bytes.{words_in};
     ghost use Rattle.dude_io.specs.FileWords.{words_of};
     ghost use Rattle.dude_io.specs.Line.{IsLineOf};
+    ghost use Rattle.std.specs.Prelude.{◌≡◌, ◌+◌, ◌*◌, ◌/◌, ◌^◌, ◌<◌, ◌≤◌, ◌++◌, [], IfOk, length, slice_index, slice_set, vec_len, vec_capacity};
 
     /// No words yet, and room for so many.
     pub(crate) fn with_capacity(alloc: Global, most: u64) -> Result<FileWords, AllocError>

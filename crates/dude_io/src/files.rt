@@ -1,7 +1,7 @@
 //! The trait of files that are read by name.
 
-ghost use Rattle.std.specs.Prelude.{◌<◌, length};
 ghost use Rattle.dude_io.specs.Files.{FilesSight, FileRead};
+ghost use Rattle.std.specs.Prelude.{◌<◌, length};
 
 use pmem_trait::Failed;
 

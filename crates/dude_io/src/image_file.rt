@@ -1,7 +1,7 @@
 //! How an image file is opened, made, read and written (trusted).
 
-ghost use Rattle.std.specs.Prelude.{◌≡◌, ◌*◌, ◌<◌, ◌≤◌, length, IfOk, flat_map};
 ghost use Rattle.dude_io.specs.Line.{line_bytes, IsRun};
+ghost use Rattle.std.specs.Prelude.{◌≡◌, ◌*◌, ◌<◌, ◌≤◌, length, IfOk, flat_map};
 
 use crate::edge_fault::EdgeFault;
 use crate::file_words::FileWords;

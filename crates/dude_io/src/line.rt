@@ -17,9 +17,9 @@ pub struct Line {
 }
 
 impl Line {
-    ghost use Rattle.std.specs.Prelude.{◌≡◌, ◌+◌, ◌*◌, ◌^◌, ◌<◌, ◌≤◌, length, flat_map};
-    ghost use Rattle.std.specs.Int.{w64, to_le_bytes};
     ghost use Rattle.dude_io.specs.Line.{IsLineOf, line_bytes};
+    ghost use Rattle.std.specs.Int.{w64, to_le_bytes};
+    ghost use Rattle.std.specs.Prelude.{◌≡◌, ◌+◌, ◌*◌, ◌^◌, ◌<◌, ◌≤◌, length, flat_map};
 
     /// The line of this number.
     pub(crate) fn of(words: &[u64], number: u64) -> Line

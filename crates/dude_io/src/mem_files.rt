@@ -1,9 +1,9 @@
 //! Files in memory, of which chosen calls fail, with a list of the reads made.
 
-ghost use Rattle.std.specs.Prelude.{◌≡◌, ◌<◌, ◌≤◌, ◌-◌, min, length};
-ghost use Rattle.std.specs.Option.{option_copied};
 ghost use Rattle.dude_io.specs.Files.{GivesBytes};
 ghost use Rattle.dude_io.specs.MemFile.{text_of};
+ghost use Rattle.std.specs.Option.{option_copied};
+ghost use Rattle.std.specs.Prelude.{◌≡◌, ◌<◌, ◌≤◌, ◌-◌, min, length};
 
 use crate::Files;
 use crate::fail_plan::FailPlan;
@@ -23,10 +23,10 @@ pub struct MemFiles {
 }
 
 impl MemFiles {
-    ghost use Rattle.std.specs.Prelude.{◌≡◌, ◌<◌, ◌≤◌, length, map, is_ok, is_err, IfOk, IsOkAnd};
     ghost use Rattle.dude_io.specs.FailPlan.{CountsCall};
-    ghost use Rattle.dude_io.specs.ReadList.{read_of};
     ghost use Rattle.dude_io.specs.MemFiles.{files_sight, files_plan, read_fails, IsNewFiles, GivesFrom, GivesMost};
+    ghost use Rattle.dude_io.specs.ReadList.{read_of};
+    ghost use Rattle.std.specs.Prelude.{◌≡◌, ◌<◌, ◌≤◌, length, map, is_ok, is_err, IfOk, IsOkAnd};
 
     /// Files of which a read gives at most `chunk` bytes. Calls are counted from 1, and those in `fail` fail.
     pub fn new(files: Vec<MemFile>, chunk: u64, fail: Vec<u64>) -> Result<MemFiles, AllocError>
@@ -72,9 +72,9 @@ impl MemFiles {
 }
 
 impl Files for MemFiles {
-    ghost use Rattle.std.specs.Prelude.{◌≡◌, ◌<◌, length, is_ok, is_err, IfOk};
     ghost use Rattle.dude_io.specs.FailPlan.{CountsCall};
     ghost use Rattle.dude_io.specs.MemFiles.{files_sight, files_plan, read_fails, ReadsMemFile, GivesMost};
+    ghost use Rattle.std.specs.Prelude.{◌≡◌, ◌<◌, length, is_ok, is_err, IfOk};
 
     ghost sight = { files_sight };
 

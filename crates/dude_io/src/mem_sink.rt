@@ -18,8 +18,8 @@ pub struct MemSink {
 }
 
 impl MemSink {
-    ghost use Rattle.std.specs.Prelude.{◌≡◌, ◌≤◌, IfOk};
     ghost use Rattle.dude_io.specs.MemSink.{IsNewSink, sink_sight};
+    ghost use Rattle.std.specs.Prelude.{◌≡◌, ◌≤◌, IfOk};
 
     /// A sink with room for `room` bytes, that takes at most `chunk` in a call. Calls are counted from 1, and those
     /// in `fail` fail.
@@ -44,10 +44,10 @@ impl MemSink {
 }
 
 impl Sink for MemSink {
-    ghost use Rattle.std.specs.Prelude.{◌≡◌, ◌<◌, length, is_ok, is_err, IfOk};
-    ghost use Rattle.dude_io.specs.Sink.{WritesSink};
     ghost use Rattle.dude_io.specs.FailPlan.{CountsCall};
     ghost use Rattle.dude_io.specs.MemSink.{sink_sight, sink_plan, write_fails, most_taken};
+    ghost use Rattle.dude_io.specs.Sink.{WritesSink};
+    ghost use Rattle.std.specs.Prelude.{◌≡◌, ◌<◌, length, is_ok, is_err, IfOk};
 
     ghost sight = { sink_sight };
 

@@ -12,8 +12,8 @@ pub struct ReadList {
 }
 
 impl ReadList {
-    ghost use Rattle.std.specs.Prelude.{◌≡◌, [], IsTrue, OnOk};
     ghost use Rattle.dude_io.specs.ReadList.{reads_in, ListsNext, ListsIfWhole};
+    ghost use Rattle.std.specs.Prelude.{◌≡◌, [], IsTrue, OnOk};
 
     pub(crate) fn new(alloc: Global) -> ReadList
         ensures none { reads_in result ≡ [] }

@@ -1,9 +1,9 @@
 //! A file is read to its end, or until it is longer than a limit.
 
-ghost use Rattle.std.specs.Prelude.{◌≡◌, OnOk, IfOk, IfErr};
-ghost use Rattle.dude_io.specs.Files.{FilesStay};
 ghost use Rattle.dude_io.specs.FileText.{IsBounded, IsReadFault, IsFileText};
+ghost use Rattle.dude_io.specs.Files.{FilesStay};
 ghost use Rattle.dude_io.specs.ReadsOfFile.{ReadsOnce};
+ghost use Rattle.std.specs.Prelude.{◌≡◌, OnOk, IfOk, IfErr};
 
 use crate::{FileFault, FileText, Files};
 use std::alloc::Global;

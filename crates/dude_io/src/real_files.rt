@@ -1,7 +1,7 @@
 //! The files of the system; what a read of them gives is seen by no contract (trusted).
 
-ghost use Rattle.std.specs.Prelude.{◌≡◌, ◌≤◌, length, IfOk};
 ghost use Rattle.dude_io.specs.Silent.{silent_files};
+ghost use Rattle.std.specs.Prelude.{◌≡◌, ◌≤◌, length, IfOk};
 
 use crate::Files;
 use pmem_trait::{Failed, FaultCount};
@@ -30,8 +30,8 @@ impl<R: FileSystem> RealFiles<R> {
 }
 
 impl<R: FileSystem> Files for RealFiles<R> {
-    ghost use Rattle.std.specs.Prelude.{◌<◌, length};
     ghost use Rattle.dude_io.specs.Silent.{real_files_sight, ReadsRealFile};
+    ghost use Rattle.std.specs.Prelude.{◌<◌, length};
 
     ghost sight = { real_files_sight };
 

@@ -1,7 +1,7 @@
 //! Standard output; what it does with the bytes that it takes is seen by no contract (trusted).
 
-ghost use Rattle.std.specs.Prelude.{◌≡◌};
 ghost use Rattle.dude_io.specs.Silent.{silent_sink};
+ghost use Rattle.std.specs.Prelude.{◌≡◌};
 
 use crate::Sink;
 use pmem_trait::{Failed, FaultCount};
@@ -26,8 +26,8 @@ impl<R: Print> RealSink<R> {
 }
 
 impl<R: Print> Sink for RealSink<R> {
-    ghost use Rattle.std.specs.Prelude.{◌<◌, length};
     ghost use Rattle.dude_io.specs.Silent.{real_sink_sight, WritesRealSink};
+    ghost use Rattle.std.specs.Prelude.{◌<◌, length};
 
     ghost sight = { real_sink_sight };
 

@@ -1,7 +1,7 @@
 //! The trait of what takes the program's output.
 
-ghost use Rattle.std.specs.Prelude.{◌<◌, length};
 ghost use Rattle.dude_io.specs.Sink.{SinkSight, WritesSink};
+ghost use Rattle.std.specs.Prelude.{◌<◌, length};
 
 use pmem_trait::Failed;
 

@@ -12,8 +12,8 @@ pub enum Spill {
 }
 
 impl Spill {
-    ghost use Rattle.std.specs.Prelude.{◌≡◌};
     ghost use Rattle.dude_io.specs.Spill.{spill_more, spill_fenced};
+    ghost use Rattle.std.specs.Prelude.{◌≡◌};
 
     /// Behind a further such line.
     pub(crate) fn more(self) -> Spill

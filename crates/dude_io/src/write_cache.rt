@@ -20,9 +20,9 @@ pub struct WriteCache {
 }
 
 impl WriteCache {
-    ghost use Rattle.std.specs.Prelude.{◌≡◌, ◌+◌, ◌-◌, ◌*◌, ◌<◌, ◌≤◌, [], IfOk, slice_index, slice_set, ◌==◌};
     ghost use Rattle.dude_io.specs.FileWords.{words_of};
     ghost use Rattle.dude_io.specs.WriteCache.{note_room, NotesOwnLine};
+    ghost use Rattle.std.specs.Prelude.{◌≡◌, ◌+◌, ◌-◌, ◌*◌, ◌<◌, ◌≤◌, [], IfOk, slice_index, slice_set, ◌==◌};
 
     /// These words, with no line noted and room for the notes.
     pub(crate) fn new(alloc: Global, words: FileWords) -> Result<WriteCache, AllocError>

@@ -1,7 +1,7 @@
 //! All bytes of a text are handed to a sink, call by call.
 
-ghost use Rattle.std.specs.Prelude.{◌≡◌, OnOk, []};
 ghost use Rattle.dude_io.specs.Sink.{WritesAll};
+ghost use Rattle.std.specs.Prelude.{◌≡◌, OnOk, []};
 
 use crate::Sink;
 use pmem_trait::Failed;

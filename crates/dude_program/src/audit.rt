@@ -1,17 +1,17 @@
 //! `audit`: whether a printed run is a one-thread run of its files from the image at hand, which is only read.
 
-ghost use Rattle.std.specs.Prelude.{◌≡◌, ◌++◌, ◌∷◌, [], codes, map, IfOk, None};
-ghost use Rattle.std.specs.Rc.{rc_str_bytes};
-ghost use Rattle.pmem_trait.specs.Sights.{IsAtRest};
-ghost use Rattle.dude_engine.specs.Opening.{IsOpening};
+ghost use Rattle.command_edges.specs.Command.{Meaning.AuditRun};
 ghost use Rattle.command_edges.specs.Fault.{status_of};
 ghost use Rattle.command_edges.specs.Files.{AreInRange};
 ghost use Rattle.command_openings.specs.ImageRead.{OnlyReadsImage, opening_read};
-ghost use Rattle.command_edges.specs.Command.{Meaning.AuditRun};
+ghost use Rattle.dude_engine.specs.Opening.{IsOpening};
 ghost use Rattle.dude_program.specs.Ended.{EndedAs};
 ghost use Rattle.dude_program.specs.Ending.{Ends};
 ghost use Rattle.dude_program.specs.Judging.{IsAnswerFor, IsAnswerOn};
 ghost use Rattle.dude_program.specs.Work.{EndsBy};
+ghost use Rattle.pmem_trait.specs.Sights.{IsAtRest};
+ghost use Rattle.std.specs.Prelude.{◌≡◌, ◌++◌, ◌∷◌, [], codes, map, IfOk, None};
+ghost use Rattle.std.specs.Rc.{rc_str_bytes};
 
 use crate::ended::Ended;
 use command_edges::{Fault, PrintedRun, print_text, read_printed_run};

@@ -1,11 +1,11 @@
 //! What an opened image refuses of a run: too many files, frames out of their limits, too few numbers.
 
-ghost use Rattle.std.specs.Prelude.{◌≡◌, ◌≤◌, length, OnOk, IfErr};
 ghost use Rattle.dude_base.specs.declared.limits.TheConstants.{MAX_NUMBER};
-ghost use Rattle.dude_recover.specs.Opened.{IsOpened};
-ghost use Rattle.tatp_model.specs.Files.{requests_in};
 ghost use Rattle.dude_engine.specs.Requests.{HasNumbersFor, request_count};
 ghost use Rattle.dude_program.specs.Work.{AllowsFrames, EachIsFew, HasFewNumbers, HasManyFiles, RefusesFiles, RefusesFrames};
+ghost use Rattle.dude_recover.specs.Opened.{IsOpened};
+ghost use Rattle.std.specs.Prelude.{◌≡◌, ◌≤◌, length, OnOk, IfErr};
+ghost use Rattle.tatp_model.specs.Files.{requests_in};
 
 use command_edges::Fault;
 use dude_base::limits::{MAX_NUMBER, MIN_FRAMES};

@@ -1,15 +1,15 @@
 //! The commands that make or open the image: each reads its files, makes or opens the image, does its work, and prints.
 
-ghost use Rattle.std.specs.Prelude.{◌≡◌, ◌≤◌, IfErr, IfOk};
-ghost use Rattle.dude_base.specs.declared.limits.TheConstants.{MAX_RINGS};
-ghost use Rattle.pmem_trait.specs.Sights.{IsAtRest};
 ghost use Rattle.command_edges.specs.Command.{IsBetween, Meaning.FreshRun, Meaning.FormatImage, Meaning.DriveLoad};
 ghost use Rattle.command_edges.specs.Fault.{status_of};
+ghost use Rattle.dude_base.specs.Sizes.{AreTheSizes, IsFaultOf};
+ghost use Rattle.dude_base.specs.declared.limits.TheConstants.{MAX_RINGS};
 ghost use Rattle.dude_program.specs.Ended.{EndedAs, EndedWithoutFiles};
 ghost use Rattle.dude_program.specs.Ending.{Ends};
-ghost use Rattle.dude_base.specs.Sizes.{AreTheSizes, IsFaultOf};
 ghost use Rattle.dude_program.specs.Opening.{format_sizes};
 ghost use Rattle.dude_program.specs.Show.{meaning_of_shown};
+ghost use Rattle.pmem_trait.specs.Sights.{IsAtRest};
+ghost use Rattle.std.specs.Prelude.{◌≡◌, ◌≤◌, IfErr, IfOk};
 
 use crate::ended::Ended;
 use crate::load::{Load, make_load};

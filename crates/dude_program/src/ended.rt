@@ -1,7 +1,7 @@
 //! How a command ended, with the medium that was handed in.
 
-ghost use Rattle.std.specs.Prelude.{◌≡◌, [], Some};
 ghost use Rattle.command_edges.specs.Fault.{status_of};
+ghost use Rattle.std.specs.Prelude.{◌≡◌, [], Some};
 
 use command_edges::Fault;
 use std::alloc::Global;

@@ -1,8 +1,5 @@
 //! `follow`: takes the packets of files in order, and so brings the image up to the leader that sent them.
 
-ghost use Rattle.std.specs.Prelude.{◌≡◌, ◌<◌, All, IfErr, IfOk, None, length, map};
-ghost use Rattle.std.specs.Rc.{rc_str_bytes};
-ghost use Rattle.pmem_trait.specs.Sights.{IsAtRest};
 ghost use Rattle.command_edges.specs.Command.{Meaning.FollowFiles};
 ghost use Rattle.command_edges.specs.Fault.{status_of};
 ghost use Rattle.dude_follow.specs.Follower.{follower_sizes};
@@ -13,6 +10,9 @@ ghost use Rattle.dude_program.specs.Follow.{FollowsFiles, followed_text};
 ghost use Rattle.dude_program.specs.Taking.{FollowerRests, IsDropCount, IsPacketsFault, MeansPackets, TakesList, TakesText, TakesTexts};
 ghost use Rattle.dude_program.specs.Work.{EndsBy};
 ghost use Rattle.dude_program.specs.World.{world_of};
+ghost use Rattle.pmem_trait.specs.Sights.{IsAtRest};
+ghost use Rattle.std.specs.Prelude.{◌≡◌, ◌<◌, All, IfErr, IfOk, None, length, map};
+ghost use Rattle.std.specs.Rc.{rc_str_bytes};
 
 use crate::ended::Ended;
 use command_edges::{Fault, print_text, read_packet_files};

@@ -1,10 +1,10 @@
 //! The load of `drive`, and what an opened image refuses of it.
 
-ghost use Rattle.std.specs.Prelude.{◌≡◌, ◌≤◌, length, IfOk, IfErr};
-ghost use Rattle.dude_recover.specs.Opened.{IsOpened};
-ghost use Rattle.tatp_model.specs.Files.{requests_in};
 ghost use Rattle.dude_engine.specs.Requests.{AreInRange};
 ghost use Rattle.dude_program.specs.Work.{AreOfLoad, EachIsFew, IsLoadFor, RefusesLoadFor};
+ghost use Rattle.dude_recover.specs.Opened.{IsOpened};
+ghost use Rattle.std.specs.Prelude.{◌≡◌, ◌≤◌, length, IfOk, IfErr};
+ghost use Rattle.tatp_model.specs.Files.{requests_in};
 
 use crate::checks::{check_numbers, check_rings};
 use command_edges::Fault;

@@ -1,13 +1,13 @@
 //! The command `locate`.
 
-ghost use Rattle.std.specs.Prelude.{◌≡◌, ◌<◌, ◌^◌, None};
-ghost use Rattle.pmem_trait.specs.Sights.{IsAtRest};
 ghost use Rattle.command_edges.specs.Command.{Meaning.LocateRange};
 ghost use Rattle.command_edges.specs.Fault.{status_of};
 ghost use Rattle.command_edges.specs.Located.{located_text};
 ghost use Rattle.dude_program.specs.Ended.{EndedWithoutFiles};
 ghost use Rattle.dude_program.specs.Ending.{Ends};
 ghost use Rattle.dude_program.specs.Work.{EndsBy};
+ghost use Rattle.pmem_trait.specs.Sights.{IsAtRest};
+ghost use Rattle.std.specs.Prelude.{◌≡◌, ◌<◌, ◌^◌, None};
 
 use crate::ended::Ended;
 use crate::locating::{LocationRange, find_located};

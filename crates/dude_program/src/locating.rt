@@ -1,9 +1,9 @@
 //! Subscribers in a range of locations, found by the index of an image or, without one, in its tables.
 
-ghost use Rattle.std.specs.Prelude.{◌≡◌, ◌<◌, ◌*◌, ◌^◌, length, IfOk};
 ghost use Rattle.dude_base.specs.declared.limits.TheConstants.{PAGE};
-ghost use Rattle.tatp_layout.specs.StandsFor.{IsLawful};
+ghost use Rattle.std.specs.Prelude.{◌≡◌, ◌<◌, ◌*◌, ◌^◌, length, IfOk};
 ghost use Rattle.tatp_core.specs.Located.{LocatesIn};
+ghost use Rattle.tatp_layout.specs.StandsFor.{IsLawful};
 
 use std::alloc::{AllocError, Global};
 use tatp_check::tables_of;

@@ -1,13 +1,13 @@
 //! What a command prints at its end, unless a fault came before.
 
+ghost use Rattle.command_edges.specs.Fault.{status_of};
+ghost use Rattle.dude_program.specs.Work.{EndsBy, lines_of, totals_of};
+ghost use Rattle.dude_recover.specs.Opened.{IsOpened};
 ghost use Rattle.std.specs.Prelude.{◌≡◌, None};
 ghost use Rattle.tatp_layout.specs.StandsFor.{StandsFor};
 ghost use Rattle.tatp_model.specs.Database.{Database, IsInOrder, database_of};
 ghost use Rattle.tatp_text.specs.Dump.{dump_text};
 ghost use Rattle.tatp_text.specs.Summary.{summary_of};
-ghost use Rattle.dude_recover.specs.Opened.{IsOpened};
-ghost use Rattle.command_edges.specs.Fault.{status_of};
-ghost use Rattle.dude_program.specs.Work.{EndsBy, lines_of, totals_of};
 
 use crate::ended::Ended;
 use crate::worked::Worked;

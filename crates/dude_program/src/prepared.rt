@@ -1,10 +1,10 @@
 //! What a command starts from that runs files over the image at hand: they are read, and the image is opened and allows them.
 
-ghost use Rattle.std.specs.Prelude.{◌≡◌, IfErr, IfOk, map};
-ghost use Rattle.std.specs.Rc.{rc_str_bytes};
-ghost use Rattle.pmem_trait.specs.Sights.{IsAtRest};
 ghost use Rattle.command_edges.specs.Fault.{status_of};
 ghost use Rattle.dude_program.specs.Prepared.{EndsUnprepared, IsPrepared};
+ghost use Rattle.pmem_trait.specs.Sights.{IsAtRest};
+ghost use Rattle.std.specs.Prelude.{◌≡◌, IfErr, IfOk, map};
+ghost use Rattle.std.specs.Rc.{rc_str_bytes};
 
 use crate::checks::check_run;
 use crate::ended::Ended;

@@ -1,15 +1,15 @@
 //! `run` and `stream`: run the requests of files on threads, and print the replies at the end, or each while others are still to
 //! come.
 
-ghost use Rattle.std.specs.Prelude.{◌≡◌, ◌<◌, IfSome, length, map};
-ghost use Rattle.std.specs.Rc.{rc_str_bytes};
-ghost use Rattle.dude_base.specs.declared.limits.TheConstants.{MAX_LOCKS};
-ghost use Rattle.pmem_trait.specs.Sights.{IsAtRest};
 ghost use Rattle.command_edges.specs.Command.{IsBetween};
 ghost use Rattle.command_edges.specs.Fault.{status_of};
+ghost use Rattle.dude_base.specs.declared.limits.TheConstants.{MAX_LOCKS};
 ghost use Rattle.dude_program.specs.Ended.{EndedAs};
 ghost use Rattle.dude_program.specs.Ending.{Ends};
 ghost use Rattle.dude_program.specs.Run.{fault_of_stream, meaning_of_run};
+ghost use Rattle.pmem_trait.specs.Sights.{IsAtRest};
+ghost use Rattle.std.specs.Prelude.{◌≡◌, ◌<◌, IfSome, length, map};
+ghost use Rattle.std.specs.Rc.{rc_str_bytes};
 
 use crate::ended::Ended;
 use crate::output::end_with_lines;

@@ -1,10 +1,10 @@
 //! What the words of a run say of what its threads share.
 
-ghost use Rattle.std.specs.Prelude.{ℕ, Option, IfSome};
-ghost use Rattle.dude_base.specs.declared.limits.TheConstants.{MAX_LOCKS};
-ghost use Rattle.dude_base.specs.Run.{IsRunWithin};
 ghost use Rattle.command_edges.specs.Command.{IsBetween};
+ghost use Rattle.dude_base.specs.Run.{IsRunWithin};
+ghost use Rattle.dude_base.specs.declared.limits.TheConstants.{MAX_LOCKS};
 ghost use Rattle.dude_program.specs.Work.{AllowsFrames, HasFrames};
+ghost use Rattle.std.specs.Prelude.{ℕ, Option, IfSome};
 
 use dude_base::limits::{DEFAULT_BOXES, DEFAULT_LOCKS};
 use dude_base::run::Run;

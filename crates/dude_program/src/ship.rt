@@ -1,15 +1,15 @@
 //! `ship`: runs the requests of files on one thread, and prints the bundles of its log as packets.
 
-ghost use Rattle.std.specs.Prelude.{◌≡◌, ◌++◌, All, None, OnOk, map};
-ghost use Rattle.std.specs.Rc.{rc_str_bytes};
-ghost use Rattle.dude_base.specs.Records.{HasNumbers};
-ghost use Rattle.pmem_trait.specs.Sights.{IsAtRest};
 ghost use Rattle.command_edges.specs.Command.{Meaning.ShipFiles};
 ghost use Rattle.command_edges.specs.Fault.{status_of};
+ghost use Rattle.dude_base.specs.Records.{HasNumbers};
 ghost use Rattle.dude_program.specs.Ended.{EndedAs};
 ghost use Rattle.dude_program.specs.Ending.{Ends};
 ghost use Rattle.dude_program.specs.Ship.{bytes_of_packets};
 ghost use Rattle.dude_program.specs.Work.{EndsBy};
+ghost use Rattle.pmem_trait.specs.Sights.{IsAtRest};
+ghost use Rattle.std.specs.Prelude.{◌≡◌, ◌++◌, All, None, OnOk, map};
+ghost use Rattle.std.specs.Rc.{rc_str_bytes};
 
 use crate::ended::Ended;
 use crate::prepared::{Prepared, prepare};

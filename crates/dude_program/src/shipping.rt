@@ -1,12 +1,12 @@
 //! What became of a command's requests, with the bundles of its log, before its output.
 
-ghost use Rattle.std.specs.Prelude.{◌≡◌, ◌≤◌, None, length};
-ghost use Rattle.redo_record.specs.Recovery.{AreConsecutive};
-ghost use Rattle.dude_recover.specs.Opened.{IsOpened};
-ghost use Rattle.tatp_model.specs.Files.{requests_in};
 ghost use Rattle.dude_engine.specs.Requests.{AreInRange, HasNumbersFor};
 ghost use Rattle.dude_program.specs.Shipping.{ShipsOpened};
 ghost use Rattle.dude_program.specs.Work.{RanOverOpened};
+ghost use Rattle.dude_recover.specs.Opened.{IsOpened};
+ghost use Rattle.redo_record.specs.Recovery.{AreConsecutive};
+ghost use Rattle.std.specs.Prelude.{◌≡◌, ◌≤◌, None, length};
+ghost use Rattle.tatp_model.specs.Files.{requests_in};
 
 use crate::worked::Worked;
 use dude_base::bundle::Bundle;

@@ -1,13 +1,13 @@
 //! A command, carried out by its words; the contract of the whole program is here.
 
-ghost use Rattle.std.specs.Prelude.{◌≡◌, map};
-ghost use Rattle.std.specs.Rc.{rc_str_bytes};
-ghost use Rattle.pmem_trait.specs.Sights.{IsAtRest};
 ghost use Rattle.command_edges.specs.Command.{IsInLimits, meaning_of_command};
 ghost use Rattle.command_edges.specs.Fault.{status_of};
 ghost use Rattle.dude_program.specs.Ended.{EndedAs};
 ghost use Rattle.dude_program.specs.Ending.{CausesByWords, Ends, EndsByWords, FollowsByWords, HasOwnTheorem, HeadlineByWords, RefusesNoCommand};
 ghost use Rattle.dude_program.specs.World.{world_of};
+ghost use Rattle.pmem_trait.specs.Sights.{IsAtRest};
+ghost use Rattle.std.specs.Prelude.{◌≡◌, map};
+ghost use Rattle.std.specs.Rc.{rc_str_bytes};
 
 use crate::audit::audit;
 use crate::commands::{ImageCounts, drive, format, fresh, show};

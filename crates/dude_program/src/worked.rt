@@ -1,11 +1,11 @@
 //! What became of a command's requests, before its output.
 
-ghost use Rattle.std.specs.Prelude.{◌≡◌, ◌≤◌, [], None, length};
 ghost use Rattle.back_store.specs.BackView.{medium_of};
-ghost use Rattle.dude_recover.specs.Opened.{IsOpened};
-ghost use Rattle.tatp_model.specs.Files.{requests_in};
 ghost use Rattle.dude_engine.specs.Requests.{AreInRange, HasNumbersFor};
 ghost use Rattle.dude_program.specs.Work.{RanOverOpened, fault_of_end};
+ghost use Rattle.dude_recover.specs.Opened.{IsOpened};
+ghost use Rattle.std.specs.Prelude.{◌≡◌, ◌≤◌, [], None, length};
+ghost use Rattle.tatp_model.specs.Files.{requests_in};
 
 use command_edges::Fault;
 use dude_engine::{Ran, RanEnd, plain};

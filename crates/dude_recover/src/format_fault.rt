@@ -23,8 +23,8 @@ pub enum FormatFault {
 }
 
 impl fmt::Display for FormatFault {
-    ghost use Rattle.std.specs.Prelude.{Some};
     ghost use Rattle.dude_recover.specs.Texts.{fault_words};
+    ghost use Rattle.std.specs.Prelude.{Some};
 
     ghost output = { λ fault. Some (fault_words fault) };
 
@@ -46,8 +46,8 @@ impl fmt::Display for FormatFault {
 impl Error for FormatFault {}
 
 impl From<SizeFault> for FormatFault {
-    ghost use Rattle.std.specs.Prelude.{◌≡◌};
     ghost use Rattle.dude_recover.specs.declared.format_fault.FormatFault.TheVariants.{Size};
+    ghost use Rattle.std.specs.Prelude.{◌≡◌};
 
     ghost from_gives = { λ fault own. own ≡ Size fault.field };
 
@@ -57,8 +57,8 @@ impl From<SizeFault> for FormatFault {
 }
 
 impl From<PopFault> for FormatFault {
-    ghost use Rattle.std.specs.Prelude.{◌≡◌};
     ghost use Rattle.dude_recover.specs.Causes.{fault_of_population};
+    ghost use Rattle.std.specs.Prelude.{◌≡◌};
 
     ghost from_gives = { λ fault own. own ≡ fault_of_population fault };
 
@@ -71,8 +71,8 @@ impl From<PopFault> for FormatFault {
 }
 
 impl From<Failed> for FormatFault {
-    ghost use Rattle.std.specs.Prelude.{◌≡◌};
     ghost use Rattle.dude_recover.specs.declared.format_fault.FormatFault.TheVariants.{Device};
+    ghost use Rattle.std.specs.Prelude.{◌≡◌};
 
     ghost from_gives = { λ _ fault. fault ≡ Device };
 

@@ -1,10 +1,10 @@
 //! A new image is made on a medium, where it fits.
 
-ghost use Rattle.std.specs.Prelude.{◌≡◌, IfOk, IfErr};
-ghost use Rattle.pmem_trait.specs.Sights.{IsAtRest};
 ghost use Rattle.dude_recover.specs.Causes.{FitsImage, HasFormatCause, FormatCallsMade};
 ghost use Rattle.dude_recover.specs.Formats.{FormatsTo, NoFormat};
 ghost use Rattle.dude_recover.specs.NewImages.{IsNewHome, RestsNew, ShowsNewImage};
+ghost use Rattle.pmem_trait.specs.Sights.{IsAtRest};
+ghost use Rattle.std.specs.Prelude.{◌≡◌, IfOk, IfErr};
 
 use crate::format_fault::FormatFault;
 use crate::image_writing::write_image;

@@ -1,9 +1,9 @@
 //! The recovered home is put in place.
 
-ghost use Rattle.std.specs.Prelude.{◌≡◌, ◌*◌, ◌≤◌, length};
-ghost use Rattle.dude_base.specs.declared.limits.TheConstants.{PAGE};
 ghost use Rattle.dude_base.specs.Image.{image_words};
+ghost use Rattle.dude_base.specs.declared.limits.TheConstants.{PAGE};
 ghost use Rattle.dude_recover.specs.OpeningCalls.{FlushesHome, PutsHome, SettlesHome};
+ghost use Rattle.std.specs.Prelude.{◌≡◌, ◌*◌, ◌≤◌, length};
 
 use dude_base::limits::{LINE, PAGE};
 use dude_base::place::Place;

@@ -1,9 +1,9 @@
 //! The writes that make an image: four groups, each put, flushed and fenced before the next, and then the tell.
 
-ghost use Rattle.std.specs.Prelude.{◌≡◌, ◌*◌, ◌≤◌, length};
-ghost use Rattle.dude_base.specs.declared.limits.TheConstants.{PAGE};
 ghost use Rattle.dude_base.specs.Image.{image_words};
+ghost use Rattle.dude_base.specs.declared.limits.TheConstants.{PAGE};
 ghost use Rattle.dude_recover.specs.FormatCalls.{FlushesContents, PutsCells, PutsHome, SettlesContents, SettlesHeader, WritesImage};
+ghost use Rattle.std.specs.Prelude.{◌≡◌, ◌*◌, ◌≤◌, length};
 
 use dude_base::limits::{HEADER, LINE, MAGIC, MARK, VERSION};
 use dude_base::place::Place;

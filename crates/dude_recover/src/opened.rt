@@ -19,13 +19,13 @@ pub struct Opened<M: Medium> {
 }
 
 impl<M: Medium> Opened<M> {
-    ghost use Rattle.std.specs.Prelude.{◌≡◌, ◌≤◌, IfOk, MatchResult};
-    ghost use Rattle.dude_base.specs.declared.limits.TheConstants.{MAX_NUMBER};
-    ghost use Rattle.dude_base.specs.Sizes.{IsAccepted};
-    ghost use Rattle.dude_base.specs.Image.{image_words};
-    ghost use Rattle.tatp_layout.specs.StandsFor.{IsLawful};
     ghost use Rattle.back_store.specs.BackView.{medium_of};
+    ghost use Rattle.dude_base.specs.Image.{image_words};
+    ghost use Rattle.dude_base.specs.Sizes.{IsAccepted};
+    ghost use Rattle.dude_base.specs.declared.limits.TheConstants.{MAX_NUMBER};
     ghost use Rattle.dude_recover.specs.Opened.{HasParts, HoldsWhereIdle, IsOpened};
+    ghost use Rattle.std.specs.Prelude.{◌≡◌, ◌≤◌, IfOk, MatchResult};
+    ghost use Rattle.tatp_layout.specs.StandsFor.{IsLawful};
 
     /// The image on a medium at rest, whose home has these words. On want of memory the medium is given back.
     pub fn new(

@@ -1,15 +1,15 @@
 //! The image on a medium is opened, or refused for the first reason that fits.
 
-ghost use Rattle.std.specs.Prelude.{◌≡◌, ◌*◌, ◌≤◌, length, IfOk, IfErr};
-ghost use Rattle.dude_base.specs.declared.limits.TheConstants.{LINE, PAGE};
 ghost use Rattle.dude_base.specs.Image.{image_words};
-ghost use Rattle.pmem_trait.specs.Sights.{IsAtRest};
-ghost use Rattle.pmem_trait.specs.Groups.{LinesFit};
-ghost use Rattle.image_recovery.specs.Faults.{IsFaultOn};
-ghost use Rattle.image_recovery.specs.Found.{IsFoundIn, IsFoundOn};
+ghost use Rattle.dude_base.specs.declared.limits.TheConstants.{LINE, PAGE};
 ghost use Rattle.dude_recover.specs.Answers.{IsNotOpened, IsOpenedFrom, OpensFound, StopsBy};
 ghost use Rattle.dude_recover.specs.Opened.{IsOpened};
 ghost use Rattle.dude_recover.specs.OpeningCalls.{RaisesVersion, SettlesImage};
+ghost use Rattle.image_recovery.specs.Faults.{IsFaultOn};
+ghost use Rattle.image_recovery.specs.Found.{IsFoundIn, IsFoundOn};
+ghost use Rattle.pmem_trait.specs.Groups.{LinesFit};
+ghost use Rattle.pmem_trait.specs.Sights.{IsAtRest};
+ghost use Rattle.std.specs.Prelude.{◌≡◌, ◌*◌, ◌≤◌, length, IfOk, IfErr};
 
 use crate::home::settle_home;
 use crate::opened::Opened;

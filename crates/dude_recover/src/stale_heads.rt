@@ -1,10 +1,10 @@
 //! Heads with numbers over the recovered one: which there are, and their clearing.
 
-ghost use Rattle.std.specs.Prelude.{◌≡◌, ◌+◌, ◌<◌, ◌≤◌, IfOk, IfErr, vec_capacity, vec_len};
 ghost use Rattle.dude_base.specs.Image.{image_words};
-ghost use Rattle.pmem_trait.specs.Groups.{LinesFit};
-ghost use Rattle.image_recovery.specs.Faults.{IsReadFault, ReadsMade};
 ghost use Rattle.dude_recover.specs.OpeningCalls.{AreStaleLines, ClearsHeads, PutsZeros, is_head_over, with_stale};
+ghost use Rattle.image_recovery.specs.Faults.{IsReadFault, ReadsMade};
+ghost use Rattle.pmem_trait.specs.Groups.{LinesFit};
+ghost use Rattle.std.specs.Prelude.{◌≡◌, ◌+◌, ◌<◌, ◌≤◌, IfOk, IfErr, vec_capacity, vec_len};
 
 use dude_base::limits::{HEADER, LINE};
 use dude_base::place::Place;

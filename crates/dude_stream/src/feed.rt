@@ -1,7 +1,7 @@
 //! The worker's end of a lane.
 
-ghost use Rattle.std.specs.Prelude.{◌≡◌, ◌+◌, ◌<◌, ◌≤◌, [], ◌∷◌, ◌++◌, length, IsTrue, IsFalse};
 ghost use Rattle.rtrb.specs.Ring.{known_free, producer_capacity, sent};
+ghost use Rattle.std.specs.Prelude.{◌≡◌, ◌+◌, ◌<◌, ◌≤◌, [], ◌∷◌, ◌++◌, length, IsTrue, IsFalse};
 
 use rtrb::Producer;
 use tatp_model::Done;

@@ -1,7 +1,7 @@
 //! A round over all lanes: replies are taken from each in turn, and their lines make a text.
 
-ghost use Rattle.std.specs.Prelude.{◌<◌, length, All, IfOk, IsFalse, OnErr, OnOk};
 ghost use Rattle.dude_stream.specs.Printing.{HadTurn, HasGathered, HasGatheredSome, IsDrained, Lessens};
+ghost use Rattle.std.specs.Prelude.{◌<◌, length, All, IfOk, IsFalse, OnErr, OnOk};
 
 use crate::outlet::Outlet;
 use std::alloc::AllocError;

@@ -1,7 +1,7 @@
 //! A lane from one worker to the printer.
 
-ghost use Rattle.std.specs.Prelude.{◌≡◌, ◌≤◌, ◌++◌, IfOk};
 ghost use Rattle.dude_stream.specs.Lanes.{HasReceived, IsLane, IsNewLane, IsSameDrain, IsSameFeed, received_by, sent_by};
+ghost use Rattle.std.specs.Prelude.{◌≡◌, ◌≤◌, ◌++◌, IfOk};
 
 use crate::drain::Drain;
 use crate::feed::Feed;

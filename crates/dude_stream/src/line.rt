@@ -1,7 +1,7 @@
 //! The line of a reply that is printed while a run goes on.
 
-ghost use Rattle.std.specs.Prelude.{◌≡◌, ◌++◌, ◌+◌, decimal, OnOk, OnErr};
 ghost use Rattle.dude_stream.specs.Lines.{lane_line};
+ghost use Rattle.std.specs.Prelude.{◌≡◌, ◌++◌, ◌+◌, decimal, OnOk, OnErr};
 
 use std::alloc::AllocError;
 use tatp_model::Done;

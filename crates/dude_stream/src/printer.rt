@@ -1,7 +1,7 @@
 //! The printer: takes replies from all lanes in turn, and hands the sink their lines.
 
-ghost use Rattle.std.specs.Prelude.{All, IfErr, IsTrue, OnOk};
 ghost use Rattle.dude_stream.specs.Printing.{HasPrinted, IsDrained, IsStopped, PrintsSome};
+ghost use Rattle.std.specs.Prelude.{All, IfErr, IsTrue, OnOk};
 
 use crate::gathering::gather_round;
 use crate::outlet::Outlet;

@@ -1,9 +1,9 @@
 //! What isn't printed yet when a run ends, and its last number.
 
-ghost use Rattle.std.specs.Prelude.{◌≡◌, ◌<◌, ◌++◌, length, All, IfErr, OnOk, slice_index};
 ghost use Rattle.dude_io.specs.Sink.{Took};
-ghost use Rattle.tatp_text.specs.Output.{last_line};
 ghost use Rattle.dude_stream.specs.Streams.{StopsAt, StopsIn, rest_lines, rest_text};
+ghost use Rattle.std.specs.Prelude.{◌≡◌, ◌<◌, ◌++◌, length, All, IfErr, OnOk, slice_index};
+ghost use Rattle.tatp_text.specs.Output.{last_line};
 
 use crate::line::write_lane;
 use crate::print_fault::PrintFault;

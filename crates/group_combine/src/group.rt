@@ -1,9 +1,9 @@
 //! A group: the last write of each word of some records, gathered in memory that was taken before.
 
-ghost use Rattle.std.specs.Prelude.{◌≡◌, ℕ, ◌<◌, ◌≤◌, [], ◌∷◌, ◌++◌, ◌+◌, All, AllPairs, IfOk, length, slice_get, sum_by};
 ghost use Rattle.dude_base.specs.Writes.{HasDistinctPlaces, written};
 ghost use Rattle.group_combine.specs.Group.{ActAs, IsWrittenBy, last_written};
 ghost use Rattle.group_combine.specs.Numbered.{last_of};
+ghost use Rattle.std.specs.Prelude.{◌≡◌, ℕ, ◌<◌, ◌≤◌, [], ◌∷◌, ◌++◌, ◌+◌, All, AllPairs, IfOk, length, slice_get, sum_by};
 
 use crate::numbered::{Numbered, keep_last, sort_by_word};
 use dude_base::bundle::Bundle;
@@ -19,11 +19,11 @@ pub struct Group {
 }
 
 impl Model for Group {
+    ghost use Rattle.group_combine.specs.Group.{GroupState};
+    ghost use Rattle.group_combine.specs.KeptGroup.{IsKeptGroup};
+    ghost use Rattle.group_combine.specs.Numbered.{write_of};
     ghost use Rattle.std.specs.Prelude.{map};
     ghost use Rattle.std.specs.Vec.{vec_capacity};
-    ghost use Rattle.group_combine.specs.Group.{GroupState};
-    ghost use Rattle.group_combine.specs.Numbered.{write_of};
-    ghost use Rattle.group_combine.specs.KeptGroup.{IsKeptGroup};
 
     ghost Value = { GroupState };
 

@@ -1,9 +1,9 @@
 //! Writes numbered in order, and the last one of each word among them.
 
+ghost use Rattle.group_combine.specs.Numbered.{AreInOrder, EndsWord, HasNextOfWord, IsKept};
+ghost use Rattle.std.specs.List.Sorted.{IsPermutation};
 ghost use Rattle.std.specs.Prelude.{◌≡◌, ◌≤◌, ◌<◌, MatchBool, length, vec_len};
 ghost use Rattle.std.specs.Vec.{vec_capacity};
-ghost use Rattle.std.specs.List.Sorted.{IsPermutation};
-ghost use Rattle.group_combine.specs.Numbered.{AreInOrder, EndsWord, HasNextOfWord, IsKept};
 
 use dude_base::write::Write;
 

@@ -1,11 +1,11 @@
 //! Tables over an array of words: a key is found, inserted and removed.
 
-ghost use Rattle.std.specs.Prelude.{◌≡◌, ◌+◌, ◌%◌, ◌^◌, ◌<◌, if◌then◌else◌, IfOk, IfSome};
-ghost use Rattle.word_space.specs.Steps.{AnswersSeen, ChangesSeen, Shows, UsesWords, WritesAsMany};
-ghost use Rattle.record_heap.specs.Pool.{IsRecord};
 ghost use Rattle.hash_table.specs.Seek.{DropsAt, PutsFree, SeeksFirst, pushed_front};
 ghost use Rattle.hash_table.specs.Table.{FindsAll, FitsTable, InsertsAll, InsertsNew, RemovesAll, put_record, write_count};
 ghost use Rattle.hash_table.specs.Walk.{FindsFirst, PutsFirst, RemovesFirst, insert_reads, remove_reads, walk_reads};
+ghost use Rattle.record_heap.specs.Pool.{IsRecord};
+ghost use Rattle.std.specs.Prelude.{◌≡◌, ◌+◌, ◌%◌, ◌^◌, ◌<◌, if◌then◌else◌, IfOk, IfSome};
+ghost use Rattle.word_space.specs.Steps.{AnswersSeen, ChangesSeen, Shows, UsesWords, WritesAsMany};
 
 use crate::put::Put;
 use record_heap::pool::Pool;

@@ -1,9 +1,9 @@
 //! Calls on words: reads and writes, those of a pool of three records and of a table of two buckets over it, and those of a tree.
 
+ghost use Rattle.hash_table.specs.Table.{FitsTable};
+ghost use Rattle.home_runs.specs.Stoppings.{stopping_sight};
 ghost use Rattle.home_runs.specs.declared.calls.TheConstants.{TABLE};
 ghost use Rattle.home_runs.specs.declared.trees.TheConstants.{TREE};
-ghost use Rattle.home_runs.specs.Stoppings.{stopping_sight};
-ghost use Rattle.hash_table.specs.Table.{FitsTable};
 ghost use Rattle.tree_index.specs.Tree.{FitsTree};
 
 use crate::page::Page;

@@ -1,9 +1,9 @@
 //! The home of a database: its new words, where its parts stand, and requests on it.
 
-ghost use Rattle.std.specs.Prelude.{◌≡◌, ◌*◌, [], All, IsTrue};
 ghost use Rattle.dude_base.specs.declared.limits.TheConstants.{PAGE};
-ghost use Rattle.word_space.specs.Flats.{flat_sight};
+ghost use Rattle.std.specs.Prelude.{◌≡◌, ◌*◌, [], All, IsTrue};
 ghost use Rattle.tatp_model.specs.Request.{IsInRange};
+ghost use Rattle.word_space.specs.Flats.{flat_sight};
 
 use crate::page::Page;
 use dude_base::field::Field;

@@ -1,8 +1,8 @@
 //! Images of a home, and what opening them leaves.
 
-ghost use Rattle.std.specs.Prelude.{IfOk};
-ghost use Rattle.pmem_trait.specs.Sights.{IsAtRest};
 ghost use Rattle.pmem_fake.specs.Fakes.{sight};
+ghost use Rattle.pmem_trait.specs.Sights.{IsAtRest};
+ghost use Rattle.std.specs.Prelude.{IfOk};
 
 use crate::home::LOCATION;
 use crate::page::Page;

@@ -1,7 +1,7 @@
 //! Rows, printed with all their fields.
 
-ghost use Rattle.std.specs.Prelude.{◌≡◌, ◌*◌};
 ghost use Rattle.dude_base.specs.declared.limits.TheConstants.{PAGE};
+ghost use Rattle.std.specs.Prelude.{◌≡◌, ◌*◌};
 ghost use Rattle.word_space.specs.Flats.{flat_sight};
 
 use crate::home::is_home;

@@ -1,9 +1,9 @@
 //! Runs of request files over the image of a home on a medium in memory.
 
+ghost use Rattle.dude_engine.specs.Requests.{AreInRange, HasNumbersFor};
+ghost use Rattle.dude_recover.specs.Opened.{IsOpened};
 ghost use Rattle.std.specs.Prelude.{◌≤◌, All, length, map};
 ghost use Rattle.tatp_model.specs.Request.{IsInRange};
-ghost use Rattle.dude_recover.specs.Opened.{IsOpened};
-ghost use Rattle.dude_engine.specs.Requests.{AreInRange, HasNumbersFor};
 
 use crate::home::{LOCATION, done_at};
 use crate::images::{image_with, medium_of, say_heads};

@@ -29,8 +29,8 @@ impl Stopping {
 }
 
 impl Words for Stopping {
-    ghost use Rattle.std.proofs.Common.{refl, ◌∙◌};
     ghost use Rattle.home_runs.specs.Stoppings.{stopping_sight, stopping_well_formed, HasSameWords};
+    ghost use Rattle.std.proofs.Common.{refl, ◌∙◌};
 
     ghost sight = { stopping_sight };
 

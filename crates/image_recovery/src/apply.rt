@@ -1,9 +1,9 @@
 //! The home is overwritten by the records that follow the mark without a gap.
 
-ghost use Rattle.std.specs.Prelude.{◌≡◌, ◌+◌, ◌*◌, ◌≤◌, IfOk, length};
 ghost use Rattle.dude_base.specs.declared.limits.TheConstants.{MAX_NUMBER};
-ghost use Rattle.log_ring.specs.Scan.{ReadsMade, record_reads};
 ghost use Rattle.image_recovery.specs.Replays.{Applies, CanApply, LacksHeads};
+ghost use Rattle.log_ring.specs.Scan.{ReadsMade, record_reads};
+ghost use Rattle.std.specs.Prelude.{◌≡◌, ◌+◌, ◌*◌, ◌≤◌, IfOk, length};
 
 use dude_base::limits::MAX_NUMBER;
 use dude_base::place::Place;

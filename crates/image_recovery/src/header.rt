@@ -1,11 +1,11 @@
 //! The header of an image is read for the sizes that it names.
 
-ghost use Rattle.std.specs.Prelude.{◌≡◌, ◌+◌, ◌≤◌, is_ok, IfOk, IfSome, OnOk};
-ghost use Rattle.dude_base.specs.Sizes.{IsAccepted};
 ghost use Rattle.dude_base.specs.Image.{image_words};
-ghost use Rattle.pmem_trait.specs.Reads.{OnlyReads, ContentHas};
+ghost use Rattle.dude_base.specs.Sizes.{IsAccepted};
 ghost use Rattle.image_recovery.specs.Header.{AreSizes, IsHeaderOf};
 ghost use Rattle.image_recovery.specs.Replays.{HasSizes};
+ghost use Rattle.pmem_trait.specs.Reads.{OnlyReads, ContentHas};
+ghost use Rattle.std.specs.Prelude.{◌≡◌, ◌+◌, ◌≤◌, is_ok, IfOk, IfSome, OnOk};
 
 use dude_base::limits::{HEADER, MAGIC, MARK, MAX_RINGS_ONE, VERSION, VERSION_ONE};
 use dude_base::place::Place;

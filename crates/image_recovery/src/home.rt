@@ -1,10 +1,10 @@
 //! The home words of an image are read.
 
-ghost use Rattle.std.specs.Prelude.{◌≡◌, ◌+◌, ◌*◌, ◌≤◌, length, IfOk, IfErr};
-ghost use Rattle.dude_base.specs.declared.limits.TheConstants.{PAGE};
 ghost use Rattle.dude_base.specs.Image.{image_words};
+ghost use Rattle.dude_base.specs.declared.limits.TheConstants.{PAGE};
 ghost use Rattle.image_recovery.specs.Faults.{IsReadFault, ReadsMade};
 ghost use Rattle.image_recovery.specs.Replays.{IsHomeOf};
+ghost use Rattle.std.specs.Prelude.{◌≡◌, ◌+◌, ◌*◌, ◌≤◌, length, IfOk, IfErr};
 
 use crate::open_fault::OpenFault;
 use dude_base::limits::PAGE;

@@ -1,7 +1,7 @@
 //! The layout of a home whose sizes are known to be accepted.
 
-ghost use Rattle.std.specs.Prelude.{◌≡◌};
 ghost use Rattle.dude_base.specs.Sizes.{IsAccepted};
+ghost use Rattle.std.specs.Prelude.{◌≡◌};
 
 use dude_base::sizes::Sizes;
 use tatp_layout::Layout;

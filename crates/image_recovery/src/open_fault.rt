@@ -23,8 +23,8 @@ pub enum OpenFault {
 }
 
 impl fmt::Display for OpenFault {
-    ghost use Rattle.std.specs.Prelude.{Some};
     ghost use Rattle.image_recovery.specs.Texts.{fault_words};
+    ghost use Rattle.std.specs.Prelude.{Some};
 
     ghost output = { λ fault. Some (fault_words fault) };
 
@@ -42,8 +42,8 @@ impl fmt::Display for OpenFault {
 impl Error for OpenFault {}
 
 impl From<Failed> for OpenFault {
-    ghost use Rattle.std.specs.Prelude.{◌≡◌};
     ghost use Rattle.image_recovery.specs.declared.open_fault.OpenFault.TheVariants.{Device};
+    ghost use Rattle.std.specs.Prelude.{◌≡◌};
 
     ghost from_gives = { λ _ fault. fault ≡ Device };
 
@@ -53,8 +53,8 @@ impl From<Failed> for OpenFault {
 }
 
 impl From<AllocError> for OpenFault {
-    ghost use Rattle.std.specs.Prelude.{◌≡◌};
     ghost use Rattle.image_recovery.specs.declared.open_fault.OpenFault.TheVariants.{NoMemory};
+    ghost use Rattle.std.specs.Prelude.{◌≡◌};
 
     ghost from_gives = { λ _ fault. fault ≡ NoMemory };
 
@@ -64,8 +64,8 @@ impl From<AllocError> for OpenFault {
 }
 
 impl From<ScanFault> for OpenFault {
-    ghost use Rattle.std.specs.Prelude.{◌≡◌};
     ghost use Rattle.image_recovery.specs.Faults.{fault_of_scan};
+    ghost use Rattle.std.specs.Prelude.{◌≡◌};
 
     ghost from_gives = { λ fault own. own ≡ fault_of_scan fault };
 
@@ -79,8 +79,8 @@ impl From<ScanFault> for OpenFault {
 }
 
 impl From<CheckFault> for OpenFault {
-    ghost use Rattle.std.specs.Prelude.{◌≡◌};
     ghost use Rattle.image_recovery.specs.Faults.{fault_of_check};
+    ghost use Rattle.std.specs.Prelude.{◌≡◌};
 
     ghost from_gives = { λ fault own. own ≡ fault_of_check fault };
 

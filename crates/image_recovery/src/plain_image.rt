@@ -15,8 +15,8 @@ pub struct PlainImage<'a> {
 }
 
 impl<'a> PlainImage<'a> {
-    ghost use Rattle.std.specs.Prelude.{◌≡◌};
     ghost use Rattle.image_recovery.specs.PlainImages.{FailsEachCall, still_sight};
+    ghost use Rattle.std.specs.Prelude.{◌≡◌};
 
     /// The image at moment 0.
     pub fn new(image: &'a [u64]) -> PlainImage<'a>

@@ -1,13 +1,13 @@
 //! The image on a medium, or one in memory, is recovered, or refused for the first reason that fits.
 
-ghost use Rattle.std.specs.Prelude.{◌≡◌, ◌+◌, ◌≤◌, IfErr, IfOk, IsErrOf};
-ghost use Rattle.pmem_trait.specs.Sights.{Risen};
-ghost use Rattle.redo_record.specs.Images.{sizes_of};
-ghost use Rattle.tatp_layout.specs.StandsFor.{IsLawful};
-ghost use Rattle.image_recovery.specs.Replays.{replay_reads};
-ghost use Rattle.image_recovery.specs.declared.open_fault.OpenFault.TheVariants.{Device};
 ghost use Rattle.image_recovery.specs.Faults.{IsFaultOf, IsFaultOn, ReadsMade, in_memory};
 ghost use Rattle.image_recovery.specs.Found.{IsFoundIn, IsFoundOn, IsRecoveryOf};
+ghost use Rattle.image_recovery.specs.Replays.{replay_reads};
+ghost use Rattle.image_recovery.specs.declared.open_fault.OpenFault.TheVariants.{Device};
+ghost use Rattle.pmem_trait.specs.Sights.{Risen};
+ghost use Rattle.redo_record.specs.Images.{sizes_of};
+ghost use Rattle.std.specs.Prelude.{◌≡◌, ◌+◌, ◌≤◌, IfErr, IfOk, IsErrOf};
+ghost use Rattle.tatp_layout.specs.StandsFor.{IsLawful};
 
 use crate::layouts::layout_of;
 use crate::open_fault::OpenFault;

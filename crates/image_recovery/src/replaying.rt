@@ -1,11 +1,11 @@
 //! The image on a medium is replayed, or refused for the first reason that fits.
 
-ghost use Rattle.std.specs.Prelude.{◌≡◌, ◌+◌, ◌≤◌, IfErr, IfOk, IsErrOf};
-ghost use Rattle.pmem_trait.specs.Sights.{Risen};
-ghost use Rattle.pmem_trait.specs.Reads.{ContentHas};
-ghost use Rattle.image_recovery.specs.declared.open_fault.OpenFault.TheVariants.{Device};
 ghost use Rattle.image_recovery.specs.Faults.{IsReplayFaultOn, ReadsMade};
 ghost use Rattle.image_recovery.specs.Replays.{IsReplay, IsReplayOf, replay_reads};
+ghost use Rattle.image_recovery.specs.declared.open_fault.OpenFault.TheVariants.{Device};
+ghost use Rattle.pmem_trait.specs.Reads.{ContentHas};
+ghost use Rattle.pmem_trait.specs.Sights.{Risen};
+ghost use Rattle.std.specs.Prelude.{◌≡◌, ◌+◌, ◌≤◌, IfErr, IfOk, IsErrOf};
 
 use crate::apply::apply_consecutive;
 use crate::header::read_sizes;

@@ -1,8 +1,8 @@
 //! The persisted part of a log: bundles are appended, announced, and brought home.
 
-ghost use Rattle.std.specs.Prelude.{◌≡◌, ◌≤◌, IfOk, OnOk, false, is_ok, length, true};
-ghost use Rattle.redo_record.specs.Record.{cells_for};
 ghost use Rattle.log_numbered.specs.Backs.{LeadsUpTo};
+ghost use Rattle.redo_record.specs.Record.{cells_for};
+ghost use Rattle.std.specs.Prelude.{◌≡◌, ◌≤◌, IfOk, OnOk, false, is_ok, length, true};
 
 use back_store::{Back, BackFault};
 use dude_base::bundle::Bundle;

@@ -1,7 +1,7 @@
 //! The bundle that a log still adds records to.
 
-ghost use Rattle.std.specs.Prelude.{◌≡◌, true, false};
 ghost use Rattle.log_numbered.specs.LogCalls.{Joins, with_joined};
+ghost use Rattle.std.specs.Prelude.{◌≡◌, true, false};
 
 use dude_base::bundle::Bundle;
 use dude_base::redo::Redo;

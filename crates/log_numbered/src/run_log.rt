@@ -1,10 +1,10 @@
 //! The log of a run: records are appended to bundles, and these announced, and brought home.
 
-ghost use Rattle.std.specs.Prelude.{◌≡◌, ◌≤◌, OnOk, false, is_ok, true};
-ghost use Rattle.dude_base.specs.declared.limits.TheConstants.{MAX_NUMBER};
 ghost use Rattle.dude_base.specs.Sizes.{IsAccepted};
 ghost use Rattle.dude_base.specs.Writes.{IsWriteList};
+ghost use Rattle.dude_base.specs.declared.limits.TheConstants.{MAX_NUMBER};
 ghost use Rattle.log_numbered.specs.KeptBundles.{HasRoomToKeep};
+ghost use Rattle.std.specs.Prelude.{◌≡◌, ◌≤◌, OnOk, false, is_ok, true};
 
 use crate::bundle_log::BundleLog;
 use crate::kept_bundles::KeptBundles;

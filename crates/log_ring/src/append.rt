@@ -1,9 +1,9 @@
 //! The calls on the medium that append one record are made.
 
-ghost use Rattle.std.specs.Prelude.{◌≡◌, ◌<◌, ◌≤◌};
 ghost use Rattle.dude_base.specs.Image.{image_words};
 ghost use Rattle.dude_base.specs.Records.{HasNumbers};
 ghost use Rattle.log_ring.specs.Appends.{AppendsAt};
+ghost use Rattle.std.specs.Prelude.{◌≡◌, ◌<◌, ◌≤◌};
 
 use dude_base::bundle::Bundle;
 use dude_base::place::Place;

@@ -1,12 +1,12 @@
 //! The bundles of the heads that a first pass found, read in the order of their numbers.
 
-ghost use Rattle.std.specs.Prelude.{◌≡◌, ◌+◌, ◌*◌, ◌≤◌, All, IfOk, IsErrOf, length};
 ghost use Rattle.dude_base.specs.Image.{image_words};
-ghost use Rattle.pmem_trait.specs.Sights.{Risen};
-ghost use Rattle.redo_record.specs.Cells.{IsCell};
-ghost use Rattle.log_ring.specs.declared.scan_fault.ScanFault.TheVariants.{Device};
 ghost use Rattle.log_ring.specs.Heads.{cell_of};
 ghost use Rattle.log_ring.specs.Scan.{AreBundles, FindsBundles, IsBundleOf, IsReplayable, LacksBundle, LacksBundles, NamesDamage, ReadsMade, record_reads, scan_reads};
+ghost use Rattle.log_ring.specs.declared.scan_fault.ScanFault.TheVariants.{Device};
+ghost use Rattle.pmem_trait.specs.Sights.{Risen};
+ghost use Rattle.redo_record.specs.Cells.{IsCell};
+ghost use Rattle.std.specs.Prelude.{◌≡◌, ◌+◌, ◌*◌, ◌≤◌, All, IfOk, IsErrOf, length};
 
 use crate::head::Head;
 use crate::reads::read_record;

@@ -10,9 +10,9 @@ pub struct Head {
 }
 
 impl Head {
-    ghost use Rattle.std.specs.Prelude.{◌≡◌};
     ghost use Rattle.dude_base.specs.Records.{first_of};
     ghost use Rattle.log_ring.specs.Heads.{numbers_of};
+    ghost use Rattle.std.specs.Prelude.{◌≡◌};
 
     /// The first number that its bundle covers.
     pub fn first(&self) -> u64

@@ -1,11 +1,11 @@
 //! The reads that fetch one record from its ring.
 
-ghost use Rattle.std.specs.Prelude.{◌≡◌, ◌+◌, ◌*◌, ◌<◌, ◌≤◌, length, Decides, All, is_ok, IfOk, IfSome, IfNone, OnOk};
-ghost use Rattle.dude_base.specs.declared.limits.TheConstants.{LINE, PAGE};
 ghost use Rattle.dude_base.specs.Image.{image_words};
-ghost use Rattle.pmem_trait.specs.Reads.{OnlyReads};
+ghost use Rattle.dude_base.specs.declared.limits.TheConstants.{LINE, PAGE};
 ghost use Rattle.log_ring.specs.Scan.{IsReplayable, record_reads};
 ghost use Rattle.log_ring.specs.Scanning.{AreWordsOf, CountsTooMany, IsCountIn, IsHomeRecord, IsRecordOf};
+ghost use Rattle.pmem_trait.specs.Reads.{OnlyReads};
+ghost use Rattle.std.specs.Prelude.{◌≡◌, ◌+◌, ◌*◌, ◌<◌, ◌≤◌, length, Decides, All, is_ok, IfOk, IfSome, IfNone, OnOk};
 
 use dude_base::bundle::Bundle;
 use dude_base::limits::{LINE, MAX_BUNDLE_WRITES, MAX_WRITES, PAGE, VERSION_ONE};

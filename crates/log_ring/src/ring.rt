@@ -1,12 +1,12 @@
 //! One log ring: records are appended to it, and released.
 
-ghost use Rattle.std.specs.Prelude.{◌≡◌, ◌+◌, ◌<◌, ◌≤◌, All, IfOk, if◌then◌else◌, is_ok};
 ghost use Rattle.dude_base.specs.Image.{image_words};
-ghost use Rattle.dude_base.specs.Sizes.{IsAccepted};
 ghost use Rattle.dude_base.specs.Records.{first_of};
-ghost use Rattle.redo_record.specs.Fits.{cells_used};
-ghost use Rattle.log_ring.specs.Ring.{FitsAtStart, StillFits, empty_ring, released_to, with_record};
+ghost use Rattle.dude_base.specs.Sizes.{IsAccepted};
 ghost use Rattle.log_ring.specs.Appends.{AppendsBehind, AppendsSafely, HasAppendCause, HasRoomFor, IsOverfull, MayAppend};
+ghost use Rattle.log_ring.specs.Ring.{FitsAtStart, StillFits, empty_ring, released_to, with_record};
+ghost use Rattle.redo_record.specs.Fits.{cells_used};
+ghost use Rattle.std.specs.Prelude.{◌≡◌, ◌+◌, ◌<◌, ◌≤◌, All, IfOk, if◌then◌else◌, is_ok};
 
 use crate::append::append_record;
 use crate::logged::Logged;

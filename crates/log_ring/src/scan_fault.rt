@@ -15,8 +15,8 @@ pub enum ScanFault {
 }
 
 impl From<Failed> for ScanFault {
-    ghost use Rattle.std.specs.Prelude.{◌≡◌};
     ghost use Rattle.log_ring.specs.declared.scan_fault.ScanFault.TheVariants.{Device};
+    ghost use Rattle.std.specs.Prelude.{◌≡◌};
 
     ghost from_gives = { λ _ fault. fault ≡ Device };
 
@@ -26,8 +26,8 @@ impl From<Failed> for ScanFault {
 }
 
 impl From<AllocError> for ScanFault {
-    ghost use Rattle.std.specs.Prelude.{◌≡◌};
     ghost use Rattle.log_ring.specs.declared.scan_fault.ScanFault.TheVariants.{NoMemory};
+    ghost use Rattle.std.specs.Prelude.{◌≡◌};
 
     ghost from_gives = { λ _ fault. fault ≡ NoMemory };
 

@@ -1,8 +1,8 @@
 //! The heads that a scan has found so far.
 
-ghost use Rattle.std.specs.Ordering.{nat_cmp};
-ghost use Rattle.std.specs.BTreeMap.{IsOrdered};
 ghost use Rattle.std.proofs.Props.{props};
+ghost use Rattle.std.specs.BTreeMap.{IsOrdered};
+ghost use Rattle.std.specs.Ordering.{nat_cmp};
 
 use crate::head::Head;
 use crate::scan_fault::ScanFault;
@@ -19,9 +19,9 @@ pub struct ScanState {
 }
 
 impl ScanState {
-    ghost use Rattle.std.specs.Prelude.{◌≡◌, ◌≢◌, ℕ, ◌+◌, ◌≤◌, [], true, false, Some, None, IfOk, IfErr, OnOk, IsErrOf};
-    ghost use Rattle.log_ring.specs.declared.scan_fault.ScanFault.TheVariants.{Damaged, Device};
     ghost use Rattle.log_ring.specs.Scanning.{AreAllHeads, AreKept, HoldsOneMore, MeetsKept, MissesKept, TakesHead};
+    ghost use Rattle.log_ring.specs.declared.scan_fault.ScanFault.TheVariants.{Damaged, Device};
+    ghost use Rattle.std.specs.Prelude.{◌≡◌, ◌≢◌, ℕ, ◌+◌, ◌≤◌, [], true, false, Some, None, IfOk, IfErr, OnOk, IsErrOf};
 
     /// Nothing was found yet.
     pub fn new(alloc: Global) -> ScanState

@@ -1,12 +1,12 @@
 //! The heads of the rings of an image, found by a first pass over all cells.
 
-ghost use Rattle.std.specs.Prelude.{◌≡◌, ◌+◌, ◌*◌, ◌<◌, ◌≤◌, All, IfOk, IfSome, OnOk, length};
-ghost use Rattle.dude_base.specs.declared.limits.TheConstants.{MAX_RINGS};
 ghost use Rattle.dude_base.specs.Image.{image_words, cell_at};
-ghost use Rattle.redo_record.specs.Cells.{IsCell};
+ghost use Rattle.dude_base.specs.declared.limits.TheConstants.{MAX_RINGS};
 ghost use Rattle.log_ring.specs.Heads.{cell_of};
 ghost use Rattle.log_ring.specs.Scan.{FindsHeads, NamesDamage, ReadsMade, cell_reads, head_reads, ring_reads};
 ghost use Rattle.log_ring.specs.Scanning.{HasHeads, HoldsRing, IsNamedTorn, KnowsRing, NamesInVersion, NamesTorn, SeesHead};
+ghost use Rattle.redo_record.specs.Cells.{IsCell};
+ghost use Rattle.std.specs.Prelude.{◌≡◌, ◌+◌, ◌*◌, ◌<◌, ◌≤◌, All, IfOk, IfSome, OnOk, length};
 
 use crate::head::Head;
 use crate::reads::read_record;

@@ -1,6 +1,6 @@
 //! A ring of the small image, with the last number that was appended to it.
-ghost use Rattle.std.specs.Prelude.{◌≡◌, ◌≤◌, All};
 ghost use Rattle.dude_base.specs.Sizes.{sizes_for};
+ghost use Rattle.std.specs.Prelude.{◌≡◌, ◌≤◌, All};
 
 use crate::records::{is_home, small_sizes};
 use dude_base::bundle::Bundle;

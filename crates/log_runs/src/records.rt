@@ -1,6 +1,6 @@
 //! Redo records and bundles as a script says them.
-ghost use Rattle.std.specs.Prelude.{◌≡◌, ◌<◌, All, IsTrue, IfSome};
 ghost use Rattle.dude_base.specs.Sizes.{IsAccepted, sizes_for};
+ghost use Rattle.std.specs.Prelude.{◌≡◌, ◌<◌, All, IsTrue, IfSome};
 
 use crate::say::say_pair;
 use dude_base::bundle::Bundle;

@@ -1,9 +1,9 @@
 //! A caller that settles words in groups, and keeps a promise at every crash.
 
-ghost use Rattle.std.specs.Prelude.{◌≡◌, ℕ, ◌≤◌, is_ok, IsTrue};
-ghost use Rattle.pmem_trait.specs.Words.{settled_at};
-ghost use Rattle.pmem_trait.specs.Sights.{state_now, CallsMade, AtEveryMoment};
 ghost use Rattle.log_runs.specs.Saving.{HoldsEither, save_calls};
+ghost use Rattle.pmem_trait.specs.Sights.{state_now, CallsMade, AtEveryMoment};
+ghost use Rattle.pmem_trait.specs.Words.{settled_at};
+ghost use Rattle.std.specs.Prelude.{◌≡◌, ℕ, ◌≤◌, is_ok, IsTrue};
 
 use pmem_trait::{Failed, Medium, settle_group};
 

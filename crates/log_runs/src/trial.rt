@@ -1,11 +1,11 @@
 //! A back over a medium in memory, with what was persisted on it: it persists only what it may.
-ghost use Rattle.std.specs.Prelude.{◌≡◌, ◌<◌, All, IsTrue};
-ghost use Rattle.std.specs.List.{Contains};
-ghost use Rattle.dude_base.specs.Sizes.{sizes_for};
-ghost use Rattle.redo_record.specs.Waiting.{Waiting};
 ghost use Rattle.back_store.specs.Back.{waiting_now};
 ghost use Rattle.back_store.specs.BackView.{state_of};
+ghost use Rattle.dude_base.specs.Sizes.{sizes_for};
 ghost use Rattle.log_runs.specs.Persisted.{MayComeBehind, is_listed, numbers_of};
+ghost use Rattle.redo_record.specs.Waiting.{Waiting};
+ghost use Rattle.std.specs.List.{Contains};
+ghost use Rattle.std.specs.Prelude.{◌≡◌, ◌<◌, All, IsTrue};
 
 use crate::persisted::Persisted;
 use crate::records::{is_home, small_sizes};

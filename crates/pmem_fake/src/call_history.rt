@@ -22,8 +22,8 @@ pub struct CallHistory {
 }
 
 impl CallHistory {
-    ghost use Rattle.std.specs.Prelude.{◌≡◌, ◌≤◌, is_ok, IfOk, []};
     ghost use Rattle.pmem_fake.specs.CallHistory.{Entered, has_next_effect};
+    ghost use Rattle.std.specs.Prelude.{◌≡◌, ◌≤◌, is_ok, IfOk, []};
 
     /// No call so far. Calls over `budget` fail, and those whose count is in `fail`; these have their effect first
     /// where `late` says so.

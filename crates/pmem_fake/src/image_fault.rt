@@ -1,7 +1,7 @@
 //! Why there is no image of a moment.
 
-ghost use Rattle.std.specs.Prelude.{◌≡◌};
 ghost use Rattle.pmem_fake.specs.declared.image_fault.ImageFault.TheVariants.{NoMemory};
+ghost use Rattle.std.specs.Prelude.{◌≡◌};
 
 use std::alloc::AllocError;
 use std::fmt;

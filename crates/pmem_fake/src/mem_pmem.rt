@@ -1,7 +1,7 @@
 //! A medium in memory, with the images that a crash may leave at each moment.
 
-ghost use Rattle.std.specs.Prelude.{◌≡◌, length};
 ghost use Rattle.pmem_fake.specs.History.{AreContent};
+ghost use Rattle.std.specs.Prelude.{◌≡◌, length};
 
 use crate::call_history::CallHistory;
 use crate::image_fault::ImageFault;
@@ -20,10 +20,10 @@ pub struct MemPmem {
 }
 
 impl MemPmem {
-    ghost use Rattle.std.specs.Prelude.{◌≡◌, ◌<◌, ◌≤◌, true, false, IfOk, IfErr, IsErrOf, ◌↔◌};
-    ghost use Rattle.pmem_trait.specs.Words.{last_told, IsContent};
-    ghost use Rattle.pmem_trait.specs.Sights.{state_now};
     ghost use Rattle.pmem_fake.specs.Fakes.{sight, later_fault, IsLater, IsNewMedium, IsPickedAt, IsImageAt, EachIsPickedAt, IsImageFault};
+    ghost use Rattle.pmem_trait.specs.Sights.{state_now};
+    ghost use Rattle.pmem_trait.specs.Words.{last_told, IsContent};
+    ghost use Rattle.std.specs.Prelude.{◌≡◌, ◌<◌, ◌≤◌, true, false, IfOk, IfErr, IsErrOf, ◌↔◌};
 
     /// A medium that is settled at these words. Of its calls, counted from 1, those over `budget` fail and do nothing,
     /// and so do those whose count is in `fail`. It takes memory for `budget` calls here, and none later.
@@ -138,12 +138,12 @@ impl MemPmem {
 }
 
 impl Medium for MemPmem {
-    ghost use Rattle.std.specs.Prelude.{◌≡◌, ◌+◌, ◌*◌, ◌<◌, ◌≤◌, is_ok, IfOk};
-    ghost use Rattle.pmem_trait.specs.declared.call.Call.TheVariants.{Read, Put, Flush, Fence, Tell};
-    ghost use Rattle.pmem_trait.specs.Words.{value_of};
-    ghost use Rattle.pmem_trait.specs.Sights.{state_now};
-    ghost use Rattle.pmem_fake.specs.Sizes.{items_fit};
     ghost use Rattle.pmem_fake.specs.Fakes.{sight, MakesCall};
+    ghost use Rattle.pmem_fake.specs.Sizes.{items_fit};
+    ghost use Rattle.pmem_trait.specs.Sights.{state_now};
+    ghost use Rattle.pmem_trait.specs.Words.{value_of};
+    ghost use Rattle.pmem_trait.specs.declared.call.Call.TheVariants.{Read, Put, Flush, Fence, Tell};
+    ghost use Rattle.std.specs.Prelude.{◌≡◌, ◌+◌, ◌*◌, ◌<◌, ◌≤◌, is_ok, IfOk};
 
     ghost sight = { λ medium. sight medium };
 

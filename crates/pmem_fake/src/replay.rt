@@ -1,9 +1,9 @@
 //! The calls of a history are done again, and an image is picked of what they leave.
 
-ghost use Rattle.std.specs.Prelude.{◌≡◌, length, slice_index, IfOk, OnOk};
-ghost use Rattle.pmem_trait.specs.declared.call.Call.TheVariants.{Put, Flush, Fence};
 ghost use Rattle.pmem_fake.specs.History.{was_effective};
 ghost use Rattle.pmem_fake.specs.Replays.{AreAtStart, AreAfter, Steps, StepsMade, TakesPicks, IsPickedAfter, IsLastAfter, IsLastTold};
+ghost use Rattle.pmem_trait.specs.declared.call.Call.TheVariants.{Put, Flush, Fence};
+ghost use Rattle.std.specs.Prelude.{◌≡◌, length, slice_index, IfOk, OnOk};
 
 use crate::word_state::WordState;
 use pmem_trait::{Call, Made};

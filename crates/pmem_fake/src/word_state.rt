@@ -14,8 +14,8 @@ pub struct WordState {
 }
 
 impl Model for WordState {
-    ghost use Rattle.std.specs.Prelude.{◌+◌, ◌≤◌, drop, length};
     ghost use Rattle.pmem_trait.specs.Words.{Word};
+    ghost use Rattle.std.specs.Prelude.{◌+◌, ◌≤◌, drop, length};
 
     ghost Value = { Word };
 
@@ -25,9 +25,9 @@ impl Model for WordState {
 }
 
 impl WordState {
-    ghost use Rattle.std.specs.Prelude.{◌≡◌, OnOk};
-    ghost use Rattle.pmem_trait.specs.Words.{settled_at, with_later, with_note, settle};
     ghost use Rattle.pmem_fake.specs.History.{picked_value};
+    ghost use Rattle.pmem_trait.specs.Words.{settled_at, with_later, with_note, settle};
+    ghost use Rattle.std.specs.Prelude.{◌≡◌, OnOk};
 
     /// A word with no later value.
     pub fn new(alloc: Global, value: u64) -> WordState

@@ -1,7 +1,7 @@
 //! How many calls on a thing outside failed.
 
-ghost use Rattle.std.specs.Prelude.{◌≡◌, ◌+◌, ◌^◌, ◌<◌};
 ghost use Rattle.pmem_trait.specs.Faults.{up_to_last};
+ghost use Rattle.std.specs.Prelude.{◌≡◌, ◌+◌, ◌^◌, ◌<◌};
 
 /// How many calls on a thing outside failed. The count stays at its last value.
 #[derive(Drop)]

@@ -1,8 +1,8 @@
 //! Writes that are made together: puts, flushes of their lines, and a fence.
 
-ghost use Rattle.std.specs.Prelude.{◌≡◌, OnOk};
-ghost use Rattle.pmem_trait.specs.Sights.{Makes};
 ghost use Rattle.pmem_trait.specs.Groups.{put_pairs, flush_lines, fence_calls, group_calls, PlacesFit, LinesFit, MixesAtEveryMoment, Settles};
+ghost use Rattle.pmem_trait.specs.Sights.{Makes};
+ghost use Rattle.std.specs.Prelude.{◌≡◌, OnOk};
 
 use crate::failed::Failed;
 use crate::medium::Medium;

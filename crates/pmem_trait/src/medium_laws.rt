@@ -1,8 +1,8 @@
 //! The laws of the medium, each as the contract of a function that does nothing.
 
-ghost use Rattle.std.specs.Prelude.{ℕ, Bool, List};
 ghost use Rattle.pmem_trait.specs.MediumLaws.{LawOfCalls, LawOfGroups, LawOfSettling, LawOfHalfDone, LawOfListing};
 ghost use Rattle.pmem_trait.specs.Reads.{LawOfReads};
+ghost use Rattle.std.specs.Prelude.{ℕ, Bool, List};
 
 use std::marker::Brand;
 

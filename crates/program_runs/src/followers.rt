@@ -1,9 +1,9 @@
 //! A follower with room for few packets.
 
-ghost use Rattle.std.specs.Prelude.{All};
-ghost use Rattle.dude_recover.specs.Opened.{IsOpened};
 ghost use Rattle.dude_follow.specs.Follower.{follower_sizes};
 ghost use Rattle.dude_follow.specs.Packets.{IsPacket};
+ghost use Rattle.dude_recover.specs.Opened.{IsOpened};
+ghost use Rattle.std.specs.Prelude.{All};
 
 use crate::outcome::Outcome;
 use crate::scene::{Scene, medium_of};

@@ -1,8 +1,8 @@
 //! What a command is tried with: an image, request files, and which calls fail.
 
-ghost use Rattle.std.specs.Prelude.{IfOk};
-ghost use Rattle.pmem_trait.specs.Sights.{IsAtRest};
 ghost use Rattle.pmem_fake.specs.Fakes.{sight};
+ghost use Rattle.pmem_trait.specs.Sights.{IsAtRest};
+ghost use Rattle.std.specs.Prelude.{IfOk};
 
 use dude_io::{MemFile, MemFiles, MemSink};
 use pmem_fake::MemPmem;

@@ -1,8 +1,8 @@
 //! Pools of records over an array of words: a record is taken and given back.
 
+ghost use Rattle.record_heap.specs.Pool.{CountsTaken, FitsPool, GivesBack, IsFirstFree, HasHeader, IsRecord, TakesFree, take_writes, with_header};
 ghost use Rattle.std.specs.Prelude.{◌<◌, ◌↔◌, IsTrue, IfOk, IfSome};
 ghost use Rattle.word_space.specs.Steps.{AnswersSeen, ChangesSeen, Shows, UsesWords, WritesAsMany};
-ghost use Rattle.record_heap.specs.Pool.{CountsTaken, FitsPool, GivesBack, IsFirstFree, HasHeader, IsRecord, TakesFree, take_writes, with_header};
 
 use dude_base::limits::ROW_WORDS;
 use word_space::stop::Stop;

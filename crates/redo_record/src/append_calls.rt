@@ -1,12 +1,12 @@
 //! The calls on the medium that append a bundle, as a list.
 
-ghost use Rattle.std.specs.Prelude.{◌≡◌, ◌+◌, ◌*◌, ◌^◌, ◌<◌, ◌≤◌, ◌++◌, [], ◌∷◌, Some, length, slice_get, take};
-ghost use Rattle.std.specs.List.{enumerate_from};
 ghost use Rattle.dude_base.specs.Image.{cell_at};
 ghost use Rattle.dude_base.specs.Records.{HasNumbers};
-ghost use Rattle.redo_record.specs.Record.{cells_for};
-ghost use Rattle.redo_record.specs.Cells.{line_of};
 ghost use Rattle.redo_record.specs.Calls.{append_calls, body_writes, lines_from, record_writes, tag_write};
+ghost use Rattle.redo_record.specs.Cells.{line_of};
+ghost use Rattle.redo_record.specs.Record.{cells_for};
+ghost use Rattle.std.specs.List.{enumerate_from};
+ghost use Rattle.std.specs.Prelude.{◌≡◌, ◌+◌, ◌*◌, ◌^◌, ◌<◌, ◌≤◌, ◌++◌, [], ◌∷◌, Some, length, slice_get, take};
 
 use crate::cells::start_after;
 use crate::encoding::{RECORD_CELLS, cells_of, encode};

@@ -1,7 +1,7 @@
 //! The crash laws of the back of the store, each as the contract of a function that does nothing.
 
-ghost use Rattle.redo_record.specs.Waiting.{LawOfWaiting};
 ghost use Rattle.redo_record.specs.BackLaws.{LawOfEmptyLog, LawOfHeldLog, LawOfPersist, LawOfPersisting, LawOfLogOnTheWay, LawOfLogWhileReproducing, LawOfAnnounce, LawOfReproduce, LawOfReproducing, LawOfReproduced, LawOfReleasedRings, LawOfReadPage};
+ghost use Rattle.redo_record.specs.Waiting.{LawOfWaiting};
 
 /// Waiting records have one contiguous end and one array at each end up to it, which stay where a record is added.
 pub fn law_of_waiting()

@@ -1,9 +1,9 @@
 //! Cells that follow one another in a ring; after the last one comes the first.
 
-ghost use Rattle.std.specs.Prelude.{◌≡◌, ◌+◌, ◌<◌, ◌≤◌};
 ghost use Rattle.dude_base.specs.Image.{image_words, cell_start, cell_at};
 ghost use Rattle.redo_record.specs.Cells.{cell_after};
 ghost use Rattle.redo_record.specs.RingLaws.{slot_after};
+ghost use Rattle.std.specs.Prelude.{◌≡◌, ◌+◌, ◌<◌, ◌≤◌};
 
 use dude_base::limits::{LINE, MAX_CELLS};
 use dude_base::place::Place;

@@ -1,10 +1,10 @@
 //! A bundle is read from its cells.
 
-ghost use Rattle.std.specs.Prelude.{◌≡◌, ◌+◌, ◌<◌, ◌*◌, ◌/◌, ◌%◌, length, IfOk, OnOk, OnErr};
 ghost use Rattle.dude_base.specs.Records.{RedoBundle};
-ghost use Rattle.redo_record.specs.Record.{cells_for, write_of};
-ghost use Rattle.redo_record.specs.Encoding.{word_in_slice, encoded_cells, IsEncodable, IsRecordSlice};
 ghost use Rattle.redo_record.specs.Decoding.{AreWritesIn, Continues, HasHeadFor, IsBundleIn};
+ghost use Rattle.redo_record.specs.Encoding.{word_in_slice, encoded_cells, IsEncodable, IsRecordSlice};
+ghost use Rattle.redo_record.specs.Record.{cells_for, write_of};
+ghost use Rattle.std.specs.Prelude.{◌≡◌, ◌+◌, ◌<◌, ◌*◌, ◌/◌, ◌%◌, length, IfOk, OnOk, OnErr};
 
 use crate::bad_record::BadRecord;
 use crate::encoding::{SPAN_UNIT, cells_for};

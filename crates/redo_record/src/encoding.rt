@@ -1,10 +1,10 @@
 //! The words of each cell of a bundle, and how many cells it takes.
 
-ghost use Rattle.std.specs.Prelude.{◌≡◌, ◌==◌, ◌<◌, ◌≤◌, length, if◌then◌else◌};
 ghost use Rattle.dude_base.specs.Records.{HasNumbers};
-ghost use Rattle.redo_record.specs.Tags.{IsNumber, head_tag, continuation_tag};
-ghost use Rattle.redo_record.specs.Record.{cells_for};
 ghost use Rattle.redo_record.specs.Encoding.{encoded, write_or_zeros};
+ghost use Rattle.redo_record.specs.Record.{cells_for};
+ghost use Rattle.redo_record.specs.Tags.{IsNumber, head_tag, continuation_tag};
+ghost use Rattle.std.specs.Prelude.{◌≡◌, ◌==◌, ◌<◌, ◌≤◌, length, if◌then◌else◌};
 
 use crate::tag::{CONTINUATION_KIND, HEAD_KIND};
 use dude_base::bundle::Bundle;

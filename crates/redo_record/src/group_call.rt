@@ -1,7 +1,7 @@
 //! The calls of a group of writes, one by one.
 
-ghost use Rattle.std.specs.Prelude.{◌≡◌, ◌<◌, Some, length, slice_get};
 ghost use Rattle.pmem_trait.specs.Groups.{group_calls};
+ghost use Rattle.std.specs.Prelude.{◌≡◌, ◌<◌, Some, length, slice_get};
 
 use pmem_trait::Call;
 

@@ -1,7 +1,7 @@
 //! The laws of redo records, each as the contract of a function that does nothing.
 
-ghost use Rattle.redo_record.specs.Encoding.{LawOfEncoding, LawOfDecoding};
 ghost use Rattle.redo_record.specs.AppendLaw.{LawOfAppend, LawOfAppending};
+ghost use Rattle.redo_record.specs.Encoding.{LawOfEncoding, LawOfDecoding};
 ghost use Rattle.redo_record.specs.Recovery.{LawOfCovering, LawOfRecovery, LawOfReplay};
 ghost use Rattle.redo_record.specs.Rest.{LawOfImagesAtRest};
 ghost use Rattle.redo_record.specs.RingLaws.{LawOfRoom, LawOfFollowing, LawOfRelease, LawOfRest};

@@ -1,8 +1,8 @@
 //! The calls on the medium that reproduce bundles, as a list.
 
-ghost use Rattle.std.specs.Prelude.{◌≡◌, ◌*◌, ◌^◌, ◌<◌, ◌≤◌, All, Some, length, slice_get};
 ghost use Rattle.dude_base.specs.declared.limits.TheConstants.{PAGE};
 ghost use Rattle.redo_record.specs.BackCalls.{home_writes, lines_touched, reproduce_calls};
+ghost use Rattle.std.specs.Prelude.{◌≡◌, ◌*◌, ◌^◌, ◌<◌, ◌≤◌, All, Some, length, slice_get};
 
 use crate::group_call::group_call;
 use dude_base::limits::{LINE, MARK};

@@ -1,11 +1,11 @@
 //! A request is served: it is tried until a try is good.
 
-ghost use Rattle.std.specs.Prelude.{◌≡◌, ◌+◌, ◌<◌, ◌≤◌, ◌↔◌, true, IfOk, IfErr, IsErrOf, MatchBool};
-ghost use Rattle.stm_transactions.specs.Passes.{IsResting};
-ghost use Rattle.request_attempts.specs.MayTry.{MayServe};
 ghost use Rattle.request_attempts.specs.Counting.{IsUnder, PATIENCE, RisesBy};
+ghost use Rattle.request_attempts.specs.MayTry.{MayServe};
 ghost use Rattle.request_attempts.specs.Tries.{IsGivenUp, IsServing, IsUnserved};
 ghost use Rattle.request_attempts.specs.declared.unserved.Unserved.TheVariants.{Refused as RefusedOf, Device as DeviceOf};
+ghost use Rattle.std.specs.Prelude.{◌≡◌, ◌+◌, ◌<◌, ◌≤◌, ◌↔◌, true, IfOk, IfErr, IsErrOf, MatchBool};
+ghost use Rattle.stm_transactions.specs.Passes.{IsResting};
 
 use crate::attempts::Attempts;
 use crate::gate::Gate;

@@ -1,11 +1,11 @@
 //! A request is tried once.
 
-ghost use Rattle.std.specs.Prelude.{◌≡◌, ◌<◌, ℕ, true, false};
-ghost use Rattle.tatp_model.specs.OneThread.{is_sync};
-ghost use Rattle.stm_transactions.specs.Passes.{IsResting};
 ghost use Rattle.request_attempts.specs.AfterOnce.{AfterOnce};
 ghost use Rattle.request_attempts.specs.MayTry.{MayTry};
 ghost use Rattle.request_attempts.specs.Tries.{AfterFull, AfterLost, AfterOut, AfterStop, AfterTry};
+ghost use Rattle.std.specs.Prelude.{◌≡◌, ◌<◌, ℕ, true, false};
+ghost use Rattle.stm_transactions.specs.Passes.{IsResting};
+ghost use Rattle.tatp_model.specs.OneThread.{is_sync};
 
 use crate::attempts::Attempts;
 use crate::gate::Gate;

@@ -1,8 +1,8 @@
 //! The turns that a worker takes.
 
+ghost use Rattle.request_attempts.specs.Turns.{HasPumped, HasFetched, LeavesFault};
 ghost use Rattle.std.specs.Prelude.{◌<◌, IfOk, IfErr, OnOk};
 ghost use Rattle.stm_transactions.specs.Passes.{IsResting};
-ghost use Rattle.request_attempts.specs.Turns.{HasPumped, HasFetched, LeavesFault};
 
 use crate::turn_fault::TurnFault;
 use core_table::stm::Stm;

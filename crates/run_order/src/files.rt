@@ -1,8 +1,8 @@
 //! The order of files.
 
+ghost use Rattle.run_order.specs.Runs.{StandApart};
 ghost use Rattle.std.specs.Prelude.{◌≡◌, AllPairs, IsPermutation, vec_capacity};
 ghost use Rattle.tatp_model.specs.OneThread.{PrecedesInFiles};
-ghost use Rattle.run_order.specs.Runs.{StandApart};
 
 use tatp_model::Done;
 

@@ -1,7 +1,7 @@
 //! What a worker makes of a turn's answer.
 
-ghost use Rattle.std.specs.Prelude.{◌≡◌};
 ghost use Rattle.run_threads.specs.TurnAnswers.{fetch_answer, pump_answer};
+ghost use Rattle.std.specs.Prelude.{◌≡◌};
 
 use request_attempts::turn_fault::TurnFault;
 use stm_turns::{PumpFault, Pumped};

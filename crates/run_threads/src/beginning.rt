@@ -1,11 +1,11 @@
 //! Transactions begin over an opened image.
 
-ghost use Rattle.std.specs.Prelude.{IfErr, IfOk};
 ghost use Rattle.back_store.specs.BackView.{state_of};
-ghost use Rattle.tiny_stm.specs.Fitting.{FitsStore};
-ghost use Rattle.tiny_stm.specs.Started.{IsAtRest};
 ghost use Rattle.run_threads.specs.Begun.{HasBegun};
 ghost use Rattle.run_threads.specs.Ran.{RanNothing};
+ghost use Rattle.std.specs.Prelude.{IfErr, IfOk};
+ghost use Rattle.tiny_stm.specs.Fitting.{FitsStore};
+ghost use Rattle.tiny_stm.specs.Started.{IsAtRest};
 
 use crate::begun::Begun;
 use dude_base::run::Run;

@@ -1,11 +1,11 @@
 //! All that leads on is announced and reproduced.
 
-ghost use Rattle.std.specs.Prelude.{◌≡◌, IfOk, OnErr, OnOk, true};
 ghost use Rattle.back_store.specs.Answers.{after_reproduce};
 ghost use Rattle.back_store.specs.BackView.{HasCause, state_of};
-ghost use Rattle.stm_slots.specs.Calls.{StaysKnown};
 ghost use Rattle.back_store.specs.Backlog.{StopsAfter};
 ghost use Rattle.run_threads.specs.CaughtUp.{GoesOn, HasCaughtUp, IsKnownSomehow, TellsDurable, TellsNone};
+ghost use Rattle.std.specs.Prelude.{◌≡◌, IfOk, OnErr, OnOk, true};
+ghost use Rattle.stm_slots.specs.Calls.{StaysKnown};
 
 use back_store::{Back, BackFault};
 use pmem_trait::{Failed, Medium};

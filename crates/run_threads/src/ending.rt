@@ -1,12 +1,12 @@
 //! What threads left is made durable, and what they set aside is run behind them.
 
-ghost use Rattle.std.specs.Prelude.{◌≡◌, ◌≢◌, ◌≤◌, length, map};
 ghost use Rattle.back_store.specs.BackView.{medium_of, state_of};
-ghost use Rattle.dude_engine.specs.declared.ran.RanEnd.TheVariants.{Whole as WholeRun};
 ghost use Rattle.dude_engine.specs.Requests.{AreInRange};
-ghost use Rattle.run_workers.specs.declared.work_end.WorkEnd.TheVariants.{NoMemory as NoMemoryEnd};
+ghost use Rattle.dude_engine.specs.declared.ran.RanEnd.TheVariants.{Whole as WholeRun};
 ghost use Rattle.run_threads.specs.Served.{RunsOn, WasServed};
 ghost use Rattle.run_threads.specs.Streamed.{StandFirst};
+ghost use Rattle.run_workers.specs.declared.work_end.WorkEnd.TheVariants.{NoMemory as NoMemoryEnd};
+ghost use Rattle.std.specs.Prelude.{◌≡◌, ◌≢◌, ◌≤◌, length, map};
 
 use crate::persist_rest;
 use crate::rests::run_rests;

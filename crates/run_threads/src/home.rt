@@ -1,10 +1,10 @@
 //! The words of the home at the end.
 
-ghost use Rattle.std.specs.Prelude.{◌≡◌, ℕ, ◌+◌, ◌*◌, ◌<◌, ◌≤◌, OnErr, OnOk, is_ok, false, length, slice_index, true};
 ghost use Rattle.back_store.specs.BackView.{state_of};
 ghost use Rattle.dude_base.specs.declared.limits.TheConstants.{PAGE};
-ghost use Rattle.stm_slots.specs.Calls.{StaysKnown};
 ghost use Rattle.run_threads.specs.Home.{FailsHome, MayReadHome, ReadsHome, TakesHome, TakesPage};
+ghost use Rattle.std.specs.Prelude.{◌≡◌, ℕ, ◌+◌, ◌*◌, ◌<◌, ◌≤◌, OnErr, OnOk, is_ok, false, length, slice_index, true};
+ghost use Rattle.stm_slots.specs.Calls.{StaysKnown};
 
 use back_store::Back;
 use dude_base::limits::PAGE;

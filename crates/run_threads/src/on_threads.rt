@@ -1,12 +1,12 @@
 //! The requests of files, run on threads.
 
-ghost use Rattle.std.specs.Prelude.{◌≡◌, length, map};
 ghost use Rattle.back_store.specs.BackView.{sight_of};
 ghost use Rattle.dude_engine.specs.Opening.{Opening};
 ghost use Rattle.dude_engine.specs.Plain.{IsOpeningOf};
 ghost use Rattle.dude_recover.specs.Opened.{IsOpened};
 ghost use Rattle.run_threads.specs.Answers.{AnswersOnThreads, TellsSyncsOnThreads};
 ghost use Rattle.run_threads.specs.Ends.{EndsOnThreads, MayRunOn, RecoversOnThreads};
+ghost use Rattle.std.specs.Prelude.{◌≡◌, length, map};
 
 use crate::beginning::begin;
 use crate::ending::finish;

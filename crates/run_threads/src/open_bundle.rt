@@ -1,10 +1,10 @@
 //! The bundle of the next records of a rest.
 
-ghost use Rattle.std.specs.Prelude.{◌≡◌, ◌<◌, ◌≤◌, All, length, true, false};
 ghost use Rattle.dude_base.specs.Writes.{IsWriteList};
-ghost use Rattle.redo_record.specs.Record.{cells_for};
 ghost use Rattle.dude_base.specs.declared.limits.TheConstants.{MAX_WRITES};
+ghost use Rattle.redo_record.specs.Record.{cells_for};
 ghost use Rattle.run_threads.specs.Bundled.{BeginsWith, IsBundled, TakesNext};
+ghost use Rattle.std.specs.Prelude.{◌≡◌, ◌<◌, ◌≤◌, All, length, true, false};
 
 use dude_base::bundle::Bundle;
 use dude_base::redo::Redo;

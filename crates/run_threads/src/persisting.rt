@@ -1,8 +1,8 @@
 //! The bundles of a rest are persisted, one after another.
 
-ghost use Rattle.std.specs.Prelude.{◌≡◌, ◌<◌, ◌≤◌, IfOk, OnErr, OnOk, length};
 ghost use Rattle.back_store.specs.BackView.{state_of};
 ghost use Rattle.run_threads.specs.Handing.{Dies, DiesFrom, Hands, HandsIf, HandsUpTo, MayGoOn, MayHand};
+ghost use Rattle.std.specs.Prelude.{◌≡◌, ◌<◌, ◌≤◌, IfOk, OnErr, OnOk, length};
 
 use crate::catching_up::catch_up;
 use crate::open_bundle::OpenBundle;

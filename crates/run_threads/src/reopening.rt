@@ -1,15 +1,15 @@
 //! An image is opened again behind running transactions.
 
-ghost use Rattle.std.specs.Prelude.{◌≡◌, ◌*◌, ◌≤◌, IfErr, IfOk, MatchResult, length};
 ghost use Rattle.back_store.specs.BackView.{medium_of};
-ghost use Rattle.dude_base.specs.declared.limits.TheConstants.{MAX_NUMBER, PAGE};
 ghost use Rattle.dude_base.specs.Image.{image_words};
 ghost use Rattle.dude_base.specs.Sizes.{IsAccepted};
+ghost use Rattle.dude_base.specs.declared.limits.TheConstants.{MAX_NUMBER, PAGE};
 ghost use Rattle.dude_recover.specs.Opened.{HasParts, IsOpened};
 ghost use Rattle.run_threads.specs.Reopened.{HoldsReopened};
+ghost use Rattle.std.specs.Prelude.{◌≡◌, ◌*◌, ◌≤◌, IfErr, IfOk, MatchResult, length};
 ghost use Rattle.tatp_check.specs.Faults.{IsCause};
-ghost use Rattle.tatp_check.specs.declared.check_fault.CheckFault.TheVariants.{NoMemory};
 ghost use Rattle.tatp_check.specs.Order.{IsNotDb};
+ghost use Rattle.tatp_check.specs.declared.check_fault.CheckFault.TheVariants.{NoMemory};
 ghost use Rattle.tatp_layout.specs.StandsFor.{IsLawful};
 
 use dude_recover::Opened;

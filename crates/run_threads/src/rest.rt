@@ -1,8 +1,8 @@
 //! What transactions left in boxes is made durable, and brought home.
 
-ghost use Rattle.std.specs.Prelude.{◌≡◌, OnErr, OnOk, true};
 ghost use Rattle.back_store.specs.BackView.{state_of};
 ghost use Rattle.run_threads.specs.Ended.{CutsOff, Ends, KeepsClosed, TellsLast, WasClosed};
+ghost use Rattle.std.specs.Prelude.{◌≡◌, OnErr, OnOk, true};
 
 use crate::catching_up::catch_up;
 use crate::persisting::persist_all;

@@ -1,9 +1,9 @@
 //! What threads left of files.
 
-ghost use Rattle.std.specs.Prelude.{◌≡◌, ◌+◌, ◌≤◌, IfOk, OnOk, drop, length, map, vec_capacity, vec_len};
 ghost use Rattle.dude_base.specs.declared.limits.TheConstants.{MAX_NUMBER};
 ghost use Rattle.dude_engine.specs.Requests.{request_count};
 ghost use Rattle.run_threads.specs.Parts.{AreInParts, AreRests};
+ghost use Rattle.std.specs.Prelude.{◌≡◌, ◌+◌, ◌≤◌, IfOk, OnOk, drop, length, map, vec_capacity, vec_len};
 
 use std::alloc::{AllocError, Global};
 use tatp_model::{Done, Request};

@@ -1,8 +1,8 @@
 //! What isn't printed yet when threads have ended, behind a whole run.
 
-ghost use Rattle.std.specs.Prelude.{◌≡◌, ◌<◌, None, All, length, vec_len};
 ghost use Rattle.dude_engine.specs.declared.ran.RanEnd.TheVariants.{Whole};
 ghost use Rattle.run_threads.specs.Streamed.{IsSameRan, PrintsBehind};
+ghost use Rattle.std.specs.Prelude.{◌≡◌, ◌<◌, None, All, length, vec_len};
 
 use crate::printing::Printing;
 use crate::streamed_run::Streamed;

@@ -1,9 +1,9 @@
 //! What threads set aside is run on one thread behind them.
 
-ghost use Rattle.std.specs.Prelude.{◌≤◌, length, map};
 ghost use Rattle.dude_engine.specs.Requests.{AreInRange};
 ghost use Rattle.run_threads.specs.SetAside.{RunsBehind, WasSetAside};
 ghost use Rattle.run_threads.specs.Streamed.{StandFirst};
+ghost use Rattle.std.specs.Prelude.{◌≤◌, length, map};
 
 use crate::ending::end_with;
 use crate::rest_files::{left_of_files, reserve};

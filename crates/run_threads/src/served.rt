@@ -22,9 +22,9 @@ pub struct Served<M: Medium> {
 }
 
 impl<M: Medium> Served<M> {
-    ghost use Rattle.std.specs.Prelude.{◌≡◌, []};
     ghost use Rattle.core_events.specs.Telling.{HasAll};
     ghost use Rattle.run_workers.specs.declared.work_end.WorkEnd.TheVariants.{NoMemory as NoMemoryEnd};
+    ghost use Rattle.std.specs.Prelude.{◌≡◌, []};
     ghost use Rattle.stm_transactions.specs.Passes.{IsResting, pass_view};
     ghost use Rattle.tiny_stm.specs.Ended.{HasClosed};
     ghost use Rattle.tiny_stm.specs.Tables.{table_of};

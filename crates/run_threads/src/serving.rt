@@ -1,8 +1,8 @@
 //! Files are served on threads over a back, and the transactions are closed.
 
-ghost use Rattle.std.specs.Prelude.{map};
 ghost use Rattle.run_threads.specs.Begun.{IsBegunFor, begun_table};
 ghost use Rattle.run_threads.specs.Served.{HasServed};
+ghost use Rattle.std.specs.Prelude.{map};
 
 use crate::back_turns::BackTurns;
 use crate::begun::Begun;

@@ -1,10 +1,10 @@
 //! Files are served on threads over a back while lines of the replies are printed, and the transactions are closed.
 
-ghost use Rattle.std.specs.Prelude.{◌≡◌, IfNone, IfSome, length, map};
-ghost use Rattle.run_workers.specs.Streamed.{HasStreamed};
-ghost use Rattle.run_workers.specs.declared.work_end.WorkEnd.TheVariants.{NoMemory as NoMemoryEnd};
 ghost use Rattle.run_threads.specs.Begun.{IsBegunFor, begun_table};
 ghost use Rattle.run_threads.specs.Served.{HasServed};
+ghost use Rattle.run_workers.specs.Streamed.{HasStreamed};
+ghost use Rattle.run_workers.specs.declared.work_end.WorkEnd.TheVariants.{NoMemory as NoMemoryEnd};
+ghost use Rattle.std.specs.Prelude.{◌≡◌, IfNone, IfSome, length, map};
 
 use crate::back_turns::BackTurns;
 use crate::begun::Begun;

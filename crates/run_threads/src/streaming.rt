@@ -1,14 +1,14 @@
 //! The requests of files, run on threads, of which the lines are printed meanwhile.
 
-ghost use Rattle.std.specs.Prelude.{◌≡◌, length, map};
 ghost use Rattle.back_store.specs.BackView.{sight_of};
 ghost use Rattle.dude_engine.specs.Opening.{Opening};
 ghost use Rattle.dude_engine.specs.Plain.{IsOpeningOf};
-ghost use Rattle.dude_stream.specs.Streams.{Streams};
 ghost use Rattle.dude_recover.specs.Opened.{IsOpened};
+ghost use Rattle.dude_stream.specs.Streams.{Streams};
 ghost use Rattle.run_threads.specs.Answers.{AnswersOnThreads, TellsSyncsOnThreads};
 ghost use Rattle.run_threads.specs.Ends.{EndsOnThreads, MayRunOn, RecoversOnThreads};
 ghost use Rattle.run_threads.specs.Streamed.{is_whole};
+ghost use Rattle.std.specs.Prelude.{◌≡◌, length, map};
 
 use crate::beginning::begin;
 use crate::ending::finish;

@@ -1,9 +1,9 @@
 //! What threads did and what was done behind them, together.
 
-ghost use Rattle.std.specs.Prelude.{◌≡◌, ◌++◌, ◌+◌, ◌≤◌, All, AllPairs, IsPermutation, length, map, slice_index, vec_capacity, vec_len};
 ghost use Rattle.run_order.specs.Rests.{shifted};
 ghost use Rattle.run_order.specs.Runs.{StandApart};
 ghost use Rattle.run_threads.specs.Parts.{IsCounted};
+ghost use Rattle.std.specs.Prelude.{◌≡◌, ◌++◌, ◌+◌, ◌≤◌, All, AllPairs, IsPermutation, length, map, slice_index, vec_capacity, vec_len};
 ghost use Rattle.tatp_model.specs.OneThread.{PrecedesInFiles};
 
 use run_order::put_in_files;

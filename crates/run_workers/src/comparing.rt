@@ -1,7 +1,7 @@
 //! Both ends of each lane, when all workers and the printer have ended.
 
-ghost use Rattle.std.specs.Prelude.{◌≡◌, length};
 ghost use Rattle.run_workers.specs.Lanes.{AreLanes, HasReceivedOf, HaveReceived, HaveSameWork, IsLaneOf, IsSameWork};
+ghost use Rattle.std.specs.Prelude.{◌≡◌, length};
 
 use crate::job::Job;
 use dude_stream::{Lane, Outlet};

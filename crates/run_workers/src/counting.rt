@@ -1,7 +1,7 @@
 //! How many lines of each file are printed.
 
-ghost use Rattle.std.specs.Prelude.{◌≡◌, ◌≤◌, [], length, map, vec_capacity};
 ghost use Rattle.run_workers.specs.Printed.{ArePrinted, LeaveFew};
+ghost use Rattle.std.specs.Prelude.{◌≡◌, ◌≤◌, [], length, map, vec_capacity};
 
 use dude_stream::Outlet;
 use tatp_model::request::Request;

@@ -1,7 +1,7 @@
 //! The jobs get their ends of the lanes.
 
-ghost use Rattle.std.specs.Prelude.{◌≡◌, length, vec_len};
 ghost use Rattle.run_workers.specs.Lanes.{HaveBoxes, HaveSameWork, IsSameWork};
+ghost use Rattle.std.specs.Prelude.{◌≡◌, length, vec_len};
 
 use crate::job::Job;
 use dude_stream::Outbox;

@@ -22,8 +22,8 @@ pub struct Job<X> {
 }
 
 impl<X> Job<X> {
-    ghost use Rattle.std.specs.Prelude.{◌≡◌};
     ghost use Rattle.run_workers.specs.Sending.{IsSameLane, SendsFirst};
+    ghost use Rattle.std.specs.Prelude.{◌≡◌};
 
     /// Sends as many of the requests done, in their order, as its lane takes.
     pub fn send(&mut self)

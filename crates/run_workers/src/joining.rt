@@ -1,9 +1,9 @@
 //! The jobs come together: their passes are joined, and what they did is one list.
 
+ghost use Rattle.run_workers.specs.Jobs.{MayJoin};
+ghost use Rattle.run_workers.specs.Joined.{AreJoined, TakesIn};
 ghost use Rattle.std.specs.Prelude.{◌≡◌, ◌++◌, ◌+◌, ◌<◌, ◌≤◌, length, vec_capacity, vec_len};
 ghost use Rattle.stm_transactions.specs.Passes.{IsResting};
-ghost use Rattle.run_workers.specs.Joined.{AreJoined, TakesIn};
-ghost use Rattle.run_workers.specs.Jobs.{MayJoin};
 
 use crate::job::Job;
 use crate::jobs::Jobs;

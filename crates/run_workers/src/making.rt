@@ -1,11 +1,11 @@
 //! A job for each file is made, with a pass of its own.
 
-ghost use Rattle.std.specs.Prelude.{◌≡◌, ◌*◌, ◌≤◌, [], IfErr, IfOk, IfSome, IfNone, OnSome, length, map, All, vec_capacity};
 ghost use Rattle.dude_base.specs.declared.limits.TheConstants.{MAX_NUMBER};
-ghost use Rattle.stm_transactions.specs.Passes.{IsResting};
 ghost use Rattle.run_workers.specs.Jobs.{HasRoom, request_count};
 ghost use Rattle.run_workers.specs.Partings.{AreShared, HasParted, HasTakenBack, IsNewcomer, IsPartOf};
 ghost use Rattle.run_workers.specs.Work.{AreNew, CameBack, MaySplit, work_files, work_table};
+ghost use Rattle.std.specs.Prelude.{◌≡◌, ◌*◌, ◌≤◌, [], IfErr, IfOk, IfSome, IfNone, OnSome, length, map, All, vec_capacity};
+ghost use Rattle.stm_transactions.specs.Passes.{IsResting};
 
 use crate::job::Job;
 use crate::jobs::Jobs;

@@ -1,9 +1,9 @@
 //! Before the workers start: jobs, lanes, and the memory for what comes behind.
 
-ghost use Rattle.std.specs.Prelude.{◌≡◌, ◌≤◌, [], length, map, IfErr, IfOk, vec_capacity};
 ghost use Rattle.run_workers.specs.Jobs.{HasRoom};
 ghost use Rattle.run_workers.specs.Lanes.{AreOpen, AreOpenLanes, IsOpenLane};
 ghost use Rattle.run_workers.specs.Work.{AreNew, CameBack, MaySplit, work_files};
+ghost use Rattle.std.specs.Prelude.{◌≡◌, ◌≤◌, [], length, map, IfErr, IfOk, vec_capacity};
 
 use crate::handing::hand_out;
 use crate::lanes::Lanes;

@@ -1,7 +1,5 @@
 //! The files are served in threads, with a printer beside them or without, from their jobs to what is done.
 
-ghost use Rattle.std.specs.Prelude.{◌≡◌, ◌<◌, length, All, IfErr, IfOk};
-ghost use Rattle.std.specs.Thread.{IsSync};
 ghost use Rattle.run_workers.specs.Job.{KeepPlaces};
 ghost use Rattle.run_workers.specs.Jobs.{HasRoom};
 ghost use Rattle.run_workers.specs.Joined.{AreJoined};
@@ -10,6 +8,8 @@ ghost use Rattle.run_workers.specs.Sending.{KeepLanes, SendsFirst};
 ghost use Rattle.run_workers.specs.Streamed.{HasStreamed};
 ghost use Rattle.run_workers.specs.Work.{AreOver, AreReady, CameBack, HasEnded, HasServedAll, HaveEnded};
 ghost use Rattle.run_workers.specs.Work.{IsNewOfFile, IsOverOfFile, IsReady, MayServeAll, MaySplit, work_files, work_table};
+ghost use Rattle.std.specs.Prelude.{◌≡◌, ◌<◌, length, All, IfErr, IfOk};
+ghost use Rattle.std.specs.Thread.{IsSync};
 
 use crate::comparing::compare_lanes;
 use crate::counting::count_printed;

@@ -15,8 +15,8 @@ pub enum WorkEnd {
 }
 
 impl From<Unserved> for WorkEnd {
-    ghost use Rattle.std.specs.Prelude.{◌≡◌};
     ghost use Rattle.run_workers.specs.WorkEnd.{end_by};
+    ghost use Rattle.std.specs.Prelude.{◌≡◌};
 
     ghost from_gives = { λ fault end. end ≡ end_by fault };
 
@@ -30,8 +30,8 @@ impl From<Unserved> for WorkEnd {
 }
 
 impl WorkEnd {
-    ghost use Rattle.std.specs.Prelude.{◌≡◌, ◌⊎◌, ◌≤◌};
     ghost use Rattle.run_workers.specs.WorkEnd.{rank};
+    ghost use Rattle.std.specs.Prelude.{◌≡◌, ◌⊎◌, ◌≤◌};
 
     /// The one of both that stops more of a run.
     pub fn worse(self, other: WorkEnd) -> WorkEnd

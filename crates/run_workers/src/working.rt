@@ -1,13 +1,13 @@
 //! A worker hands the requests of its file, one after another, to transactions.
 
-ghost use Rattle.std.specs.Prelude.{◌≡◌, ◌+◌, ◌<◌, IfErr, OnOk, length};
-ghost use Rattle.stm_transactions.specs.Passes.{IsResting};
 ghost use Rattle.request_attempts.specs.Turns.{HasFailed};
-ghost use Rattle.run_workers.specs.declared.work_end.WorkEnd.TheVariants.{Device as DeviceEnd};
 ghost use Rattle.run_workers.specs.Job.{KeepsPlace};
 ghost use Rattle.run_workers.specs.Sending.{DoesMore, IsSameLane, SendsFirst};
 ghost use Rattle.run_workers.specs.Steps.{HasTurned};
 ghost use Rattle.run_workers.specs.Work.{EndsSo, IsNew, IsOver, IsServedTo, MayServeRequests, work_table};
+ghost use Rattle.run_workers.specs.declared.work_end.WorkEnd.TheVariants.{Device as DeviceEnd};
+ghost use Rattle.std.specs.Prelude.{◌≡◌, ◌+◌, ◌<◌, IfErr, OnOk, length};
+ghost use Rattle.stm_transactions.specs.Passes.{IsResting};
 
 use crate::job::Job;
 use crate::work::Work;

@@ -1,7 +1,7 @@
 //! Pages are placed in frames and dropped, and the hand finds the next page to drop.
 
-ghost use Rattle.std.specs.Prelude.{◌≡◌, None, Some, ◌<◌, ◌≤◌, ◌↔◌, ℕ, IfOk, IfSome, IsNone};
 ghost use Rattle.shadow_pages.specs.PageMap.{empty_map, map_with, Holds, IsFree, IsIn, IsOccupied, HasFree, IsOneToOne, IsLeastFree, IsNextOccupied, IsVictim};
+ghost use Rattle.std.specs.Prelude.{◌≡◌, None, Some, ◌<◌, ◌≤◌, ◌↔◌, ℕ, IfOk, IfSome, IsNone};
 
 use std::alloc::{AllocError, Global};
 use std::marker::Model;
@@ -17,9 +17,9 @@ pub struct Pager {
 }
 
 impl Model for Pager {
-    ghost use Rattle.std.specs.Prelude.{length};
     ghost use Rattle.shadow_pages.specs.PageMap.{PageMap};
     ghost use Rattle.shadow_pages.specs.Pager.{IsSound};
+    ghost use Rattle.std.specs.Prelude.{length};
 
     ghost Value = { PageMap };
 

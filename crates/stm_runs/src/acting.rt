@@ -1,8 +1,8 @@
 //! What one pass does.
 
+ghost use Rattle.stm_runs.specs.Kept.{StaysWith};
 ghost use Rattle.stm_transactions.specs.Passes.{IsResting};
 ghost use Rattle.tiny_stm.specs.Tables.{table_of};
-ghost use Rattle.stm_runs.specs.Kept.{StaysWith};
 
 use crate::moves::Act;
 use crate::outcome::Answer;

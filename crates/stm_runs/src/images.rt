@@ -1,8 +1,8 @@
 //! Images in memory: made, opened, and recovered.
 
-ghost use Rattle.std.specs.Prelude.{IfOk, IfSome};
-ghost use Rattle.pmem_trait.specs.Sights.{IsAtRest};
 ghost use Rattle.pmem_fake.specs.Fakes.{sight};
+ghost use Rattle.pmem_trait.specs.Sights.{IsAtRest};
+ghost use Rattle.std.specs.Prelude.{IfOk, IfSome};
 ghost use Rattle.stm_runs.specs.Untold.{IsUntold};
 ghost use Rattle.tiny_stm.specs.Started.{IsAtRest as MayRun};
 

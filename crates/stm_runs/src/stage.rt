@@ -1,10 +1,10 @@
 //! Running transactions, and all their passes.
 
-ghost use Rattle.std.proofs.Props.{props};
-ghost use Rattle.tiny_stm.specs.Tables.{table_of};
 ghost use Rattle.core_events.specs.Telling.{HasAll};
-ghost use Rattle.stm_transactions.specs.Passes.{IsResting, pass_view};
+ghost use Rattle.std.proofs.Props.{props};
 ghost use Rattle.stm_runs.specs.Kept.{AreHeld};
+ghost use Rattle.stm_transactions.specs.Passes.{IsResting, pass_view};
+ghost use Rattle.tiny_stm.specs.Tables.{table_of};
 
 use crate::acting::act_by;
 use crate::moves::{Access, Act, Move};

@@ -1,9 +1,9 @@
 //! Transactions of a pass.
 
-ghost use Rattle.word_space.specs.Steps.{WordsGoOn};
+ghost use Rattle.stm_runs.specs.Kept.{StaysWith};
 ghost use Rattle.stm_transactions.specs.Passes.{IsResting};
 ghost use Rattle.tiny_stm.specs.Tables.{table_of};
-ghost use Rattle.stm_runs.specs.Kept.{StaysWith};
+ghost use Rattle.word_space.specs.Steps.{WordsGoOn};
 
 use crate::acting::act_by;
 use crate::moves::{Access, Act};

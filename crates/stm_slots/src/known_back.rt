@@ -1,11 +1,11 @@
 //! The calls of a back, as changes of the lists by which it is known.
 
-ghost use Rattle.std.specs.Prelude.{◌≡◌, ◌<◌, IfOk};
-ghost use Rattle.dude_base.specs.declared.limits.TheConstants.{PAGE};
-ghost use Rattle.back_store.specs.Backlog.{IsLawful, StopsAfter};
 ghost use Rattle.back_store.specs.Answers.{after_announce, after_persist, after_read, after_reproduce};
 ghost use Rattle.back_store.specs.Back.{IsEnd, MayPersist};
 ghost use Rattle.back_store.specs.BackView.{HasCause, HasPersistCause, ReadsPage, TellsEnd, state_of};
+ghost use Rattle.back_store.specs.Backlog.{IsLawful, StopsAfter};
+ghost use Rattle.dude_base.specs.declared.limits.TheConstants.{PAGE};
+ghost use Rattle.std.specs.Prelude.{◌≡◌, ◌<◌, IfOk};
 ghost use Rattle.stm_slots.specs.Calls.{StartsKnown, StaysKnown, TakesRecords};
 ghost use Rattle.stm_slots.specs.Records.{LawOfJoinedRecords};
 

@@ -1,10 +1,10 @@
 //! A transaction begins.
 
-ghost use Rattle.std.specs.Prelude.{◌≡◌, ◌<◌, IfOk, IfErr};
 ghost use Rattle.std.specs.Borrow.{sem, RestsIfErr};
+ghost use Rattle.std.specs.Prelude.{◌≡◌, ◌<◌, IfOk, IfErr};
 ghost use Rattle.stm_transactions.specs.Passes.{IsRefused, IsResting};
-ghost use Rattle.stm_transactions.specs.contracts.pass.Pass.{the_row};
 ghost use Rattle.stm_transactions.specs.Transactions.{HasBegun};
+ghost use Rattle.stm_transactions.specs.contracts.pass.Pass.{the_row};
 
 use crate::box_full::BoxFull;
 use crate::pass::Pass;

@@ -11,10 +11,10 @@ use dude_base::write_list::WriteList;
 /// A rule of slots that has a draw, which may take the slot of the thread's next box, and a post,
 /// which gives it with the record.
 pub trait BoxRule<S, X, K>: SlotRule<S, X, K> + Sized {
-    ghost use Rattle.std.specs.Prelude.{◌≡◌, List, Some};
-    ghost use Rattle.core_events.specs.Events.{post};
     ghost use Rattle.core_events.specs.Conditions.{May, record_of};
+    ghost use Rattle.core_events.specs.Events.{post};
     ghost use Rattle.core_table.specs.Steps.{BelongsTo};
+    ghost use Rattle.std.specs.Prelude.{◌≡◌, List, Some};
     ghost use Rattle.stm_transactions.specs.Boxes.{HasBox, TakesBox, GivesBox};
     ghost use Rattle.stm_transactions.specs.CommitEnds.{draw_for};
 

@@ -1,14 +1,14 @@
 //! A transaction ends: with its entry, or without one.
 
-ghost use Rattle.std.specs.Prelude.{◌≡◌, ◌<◌, [], length, IfOk, IfErr, OnErr};
 ghost use Rattle.core_table.specs.Steps.{BelongsTo};
-ghost use Rattle.stm_transactions.specs.Seats.{Stays};
-ghost use Rattle.stm_transactions.specs.Pins.{IsPinning, pin_list};
-ghost use Rattle.stm_transactions.specs.Owns.{OwnsHeld};
-ghost use Rattle.stm_transactions.specs.Pairs.{pairs_of};
-ghost use Rattle.stm_transactions.specs.Draws.{RunsPinned};
+ghost use Rattle.std.specs.Prelude.{◌≡◌, ◌<◌, [], length, IfOk, IfErr, OnErr};
 ghost use Rattle.stm_transactions.specs.CommitEnds.{AsLost, Enters, HasEnded, IsLostBy, IsPinStop, OnlyUndoes};
 ghost use Rattle.stm_transactions.specs.CommitRule.{OutlastsEnding};
+ghost use Rattle.stm_transactions.specs.Draws.{RunsPinned};
+ghost use Rattle.stm_transactions.specs.Owns.{OwnsHeld};
+ghost use Rattle.stm_transactions.specs.Pairs.{pairs_of};
+ghost use Rattle.stm_transactions.specs.Pins.{IsPinning, pin_list};
+ghost use Rattle.stm_transactions.specs.Seats.{Stays};
 
 use crate::box_rule::BoxRule;
 use crate::commit::Commit;

@@ -1,7 +1,7 @@
 //! The words of locks that a transaction may read under.
 
-ghost use Rattle.std.specs.Prelude.{◌≡◌, ◌<◌, Some};
 ghost use Rattle.core_events.specs.Events.{is_good};
+ghost use Rattle.std.specs.Prelude.{◌≡◌, ◌<◌, Some};
 
 /// Whether a lock's word is the thread's own, or that of a free lock with a version up to the snapshot.
 pub fn is_good_word(thread: u64, snapshot: u64, word: u64) -> bool

@@ -1,7 +1,7 @@
 //! The lock of a word.
 
-ghost use Rattle.std.specs.Prelude.{◌≡◌, ◌<◌};
 ghost use Rattle.core_events.specs.Setups.{lock_of};
+ghost use Rattle.std.specs.Prelude.{◌≡◌, ◌<◌};
 
 use core_table::slot_rule::SlotRule;
 use core_table::stm::Stm;

@@ -1,7 +1,7 @@
 //! A lock is looked at, and the snapshot extended where that is needed.
 
-ghost use Rattle.std.specs.Prelude.{◌<◌, ◌≤◌, length, IfOk, IfErr, MatchBool};
 ghost use Rattle.core_table.specs.Steps.{BelongsTo};
+ghost use Rattle.std.specs.Prelude.{◌<◌, ◌≤◌, length, IfOk, IfErr, MatchBool};
 ghost use Rattle.stm_transactions.specs.Looks.{EndsAtNewLock, Extends, FailsToExtend, FailsToLook, HasNewLock, IsReading, LooksAt, RepeatFrom, RepeatsLock};
 ghost use Rattle.stm_transactions.specs.Seats.{OutlastsReading, Stays};
 

@@ -1,9 +1,9 @@
 //! A lock is taken.
 
-ghost use Rattle.std.specs.Prelude.{◌≡◌, ◌<◌, length, None, IfErr, OnOk, OnErr};
-ghost use Rattle.dude_base.specs.declared.limits.TheConstants.{MAX_WRITES as MOST};
-ghost use Rattle.dude_base.specs.Writes.{written};
 ghost use Rattle.core_table.specs.Steps.{BelongsTo};
+ghost use Rattle.dude_base.specs.Writes.{written};
+ghost use Rattle.dude_base.specs.declared.limits.TheConstants.{MAX_WRITES as MOST};
+ghost use Rattle.std.specs.Prelude.{◌≡◌, ◌<◌, length, None, IfErr, OnOk, OnErr};
 ghost use Rattle.stm_transactions.specs.Looks.{IsReading};
 ghost use Rattle.stm_transactions.specs.Owns.{FailsToOwn, HasOwned, HasOwnedNone, OwnsHeld};
 ghost use Rattle.stm_transactions.specs.Seats.{OutlastsReading, Stays};

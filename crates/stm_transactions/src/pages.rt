@@ -1,8 +1,8 @@
 //! Pages are pinned, and let go.
 
-ghost use Rattle.std.specs.Prelude.{◌≡◌, ◌<◌, [], ◌∷◌, None, IfOk, IfErr, IfSome, OnErr};
 ghost use Rattle.core_events.specs.Keyed.{find};
 ghost use Rattle.core_table.specs.Steps.{BelongsTo};
+ghost use Rattle.std.specs.Prelude.{◌≡◌, ◌<◌, [], ◌∷◌, None, IfOk, IfErr, IfSome, OnErr};
 ghost use Rattle.stm_transactions.specs.Pins.{HasPinned, IsPinning, LeavesPins, LetsGo, Reaches, ReachesNone, StopsPin, pin_list, pins_in};
 ghost use Rattle.stm_transactions.specs.Seats.{OutlastsReading, Stays};
 

@@ -1,14 +1,14 @@
 //! The pages of written words are pinned.
 
-ghost use Rattle.std.specs.Prelude.{◌≡◌, ◌<◌, ◌*◌, [], length, All, IfErr, OnOk, OnErr};
-ghost use Rattle.dude_base.specs.declared.limits.TheConstants.{MAX_WRITES as MOST, PAGE as PAGE_WORDS};
-ghost use Rattle.dude_base.specs.Writes.{written, IsWriteList};
 ghost use Rattle.core_table.specs.Steps.{BelongsTo};
-ghost use Rattle.stm_transactions.specs.Seats.{Stays};
-ghost use Rattle.stm_transactions.specs.Pins.{IsPinning, StopsPin};
-ghost use Rattle.stm_transactions.specs.Pairs.{pairs_of};
-ghost use Rattle.stm_transactions.specs.Pages.{ArePagesOf, HasPages, PinsNoMore, PinsOnce, StopsPages};
+ghost use Rattle.dude_base.specs.Writes.{written, IsWriteList};
+ghost use Rattle.dude_base.specs.declared.limits.TheConstants.{MAX_WRITES as MOST, PAGE as PAGE_WORDS};
+ghost use Rattle.std.specs.Prelude.{◌≡◌, ◌<◌, ◌*◌, [], length, All, IfErr, OnOk, OnErr};
 ghost use Rattle.stm_transactions.specs.CommitRule.{OutlastsEnding};
+ghost use Rattle.stm_transactions.specs.Pages.{ArePagesOf, HasPages, PinsNoMore, PinsOnce, StopsPages};
+ghost use Rattle.stm_transactions.specs.Pairs.{pairs_of};
+ghost use Rattle.stm_transactions.specs.Pins.{IsPinning, StopsPin};
+ghost use Rattle.stm_transactions.specs.Seats.{Stays};
 
 use crate::pages::pin_page;
 use core_table::event_table::Seat;

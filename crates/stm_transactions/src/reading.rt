@@ -1,8 +1,8 @@
 //! A word is read.
 
-ghost use Rattle.std.specs.Prelude.{◌≡◌, ◌*◌, ◌<◌, IfOk, IfErr, OnErr};
-ghost use Rattle.dude_base.specs.declared.limits.TheConstants.{PAGE as PAGE_WORDS};
 ghost use Rattle.core_table.specs.Steps.{BelongsTo};
+ghost use Rattle.dude_base.specs.declared.limits.TheConstants.{PAGE as PAGE_WORDS};
+ghost use Rattle.std.specs.Prelude.{◌≡◌, ◌*◌, ◌<◌, IfOk, IfErr, OnErr};
 ghost use Rattle.stm_transactions.specs.Looks.{IsReading};
 ghost use Rattle.stm_transactions.specs.Pins.{IsPinning, pin_list};
 ghost use Rattle.stm_transactions.specs.Reads.{HasRead, HasReadNone, StopsRead};

@@ -14,8 +14,8 @@ use stm_slots::slots_rule::KeptSlots;
 /// A rule of slots whose fact outlasts the steps of passes and transactions, but for the draw and the
 /// post of a number.
 pub trait TransactionRule<S, X, K>: SlotRule<S, X, K> {
-    ghost use Rattle.std.specs.Prelude.{◌≡◌};
     ghost use Rattle.core_table.specs.Layout.{TableSight};
+    ghost use Rattle.std.specs.Prelude.{◌≡◌};
     ghost use Rattle.stm_transactions.specs.Rule.{LetsTransact};
 
     /// It is so on any table that is set up by its key.

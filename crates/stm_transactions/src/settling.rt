@@ -1,7 +1,7 @@
 //! A number is decided, and its writes made.
 
-ghost use Rattle.std.specs.Prelude.{◌≡◌};
 ghost use Rattle.core_table.specs.Steps.{BelongsTo};
+ghost use Rattle.std.specs.Prelude.{◌≡◌};
 ghost use Rattle.stm_transactions.specs.Boxes.{HasBox};
 ghost use Rattle.stm_transactions.specs.CommitRule.{GivesBack, OutlastsEnding};
 ghost use Rattle.stm_transactions.specs.Settles.{Decides, IsPosted};

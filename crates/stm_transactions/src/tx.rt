@@ -1,14 +1,14 @@
 //! A transaction, which has the seat of its pass.
 
-ghost use Rattle.std.specs.Prelude.{◌≡◌, ◌*◌, ◌<◌, [], None, All, length};
-ghost use Rattle.std.proofs.Props.{props};
-ghost use Rattle.dude_base.specs.declared.limits.TheConstants.{PAGE as PAGE_WORDS};
 ghost use Rattle.core_table.specs.Steps.{BelongsTo};
+ghost use Rattle.dude_base.specs.declared.limits.TheConstants.{PAGE as PAGE_WORDS};
+ghost use Rattle.std.proofs.Props.{props};
+ghost use Rattle.std.specs.Prelude.{◌≡◌, ◌*◌, ◌<◌, [], None, All, length};
+ghost use Rattle.stm_transactions.specs.Begins.{Begins, IsReady};
 ghost use Rattle.stm_transactions.specs.Pairs.{pairs_of};
+ghost use Rattle.stm_transactions.specs.Passes.{Describes};
 ghost use Rattle.stm_transactions.specs.Pins.{pin_list};
 ghost use Rattle.stm_transactions.specs.Running.{IsRunning};
-ghost use Rattle.stm_transactions.specs.Passes.{Describes};
-ghost use Rattle.stm_transactions.specs.Begins.{Begins, IsReady};
 ghost use Rattle.stm_transactions.specs.Stops.{CountsStop};
 
 use crate::box_rule::BoxRule;

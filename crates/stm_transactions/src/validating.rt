@@ -1,10 +1,10 @@
 //! The reads are checked once more, behind the draw.
 
-ghost use Rattle.std.specs.Prelude.{◌≡◌, OnOk, IfErr};
 ghost use Rattle.core_table.specs.Steps.{BelongsTo};
-ghost use Rattle.stm_transactions.specs.Seats.{Stays};
-ghost use Rattle.stm_transactions.specs.Draws.{HasChecked, HasVoided, IsChecking};
+ghost use Rattle.std.specs.Prelude.{◌≡◌, OnOk, IfErr};
 ghost use Rattle.stm_transactions.specs.CommitRule.{OutlastsEnding};
+ghost use Rattle.stm_transactions.specs.Draws.{HasChecked, HasVoided, IsChecking};
+ghost use Rattle.stm_transactions.specs.Seats.{Stays};
 
 use crate::bad_lock::BadLock;
 use crate::good_word::is_good_word;

@@ -1,8 +1,8 @@
 //! A transaction as words.
 
-ghost use Rattle.std.specs.Prelude.{◌≡◌, ◌<◌, ◌≤◌, ◌+◌, IsTrue, MatchBool, vec_len, vec_capacity};
-ghost use Rattle.pmem_trait.specs.Faults.{up_to_last};
 ghost use Rattle.dude_base.specs.Writes.{put_write, IsWide};
+ghost use Rattle.pmem_trait.specs.Faults.{up_to_last};
+ghost use Rattle.std.specs.Prelude.{◌≡◌, ◌<◌, ◌≤◌, ◌+◌, IsTrue, MatchBool, vec_len, vec_capacity};
 
 use crate::bad_lock::BadLock;
 use crate::lock_for::lock_for;
@@ -54,9 +54,9 @@ fn one_more(refused: u64) -> u64
 
 impl<'a, S, X, K, P: TransactionRule<S, X, K>> Words for TxOver<'a, S, X, K, P, Reads> {
     ghost use Rattle.std.specs.Prelude.{◌≡◌, ◌<◌, IfErr};
-    ghost use Rattle.word_space.specs.declared.stop.Stop.{Stop};
-    ghost use Rattle.word_space.specs.Steps.{AnswersSeen, IsSeenAt, MakesRead, MakesWrite, Shows, UsesWords, with_word};
     ghost use Rattle.stm_transactions.specs.Transactions.{CountsRefusal, KeepsPages, StopsReading, StopsWriting, TurnsInto, turns_begin, turns_on, tx_sight, tx_well_formed};
+    ghost use Rattle.word_space.specs.Steps.{AnswersSeen, IsSeenAt, MakesRead, MakesWrite, Shows, UsesWords, with_word};
+    ghost use Rattle.word_space.specs.declared.stop.Stop.{Stop};
 
     ghost sight = { tx_sight };
 

@@ -1,8 +1,8 @@
 //! The thread with the turn looks at boxes, takes records out of them, and puts one back.
 
-ghost use Rattle.std.specs.Prelude.{◌≡◌, ◌<◌, [], true, false};
 ghost use Rattle.core_events.specs.Events.{see_full};
 ghost use Rattle.core_table.specs.Steps.{IsAfter};
+ghost use Rattle.std.specs.Prelude.{◌≡◌, ◌<◌, [], true, false};
 ghost use Rattle.stm_turns.specs.Bundles.{FindsNumber, HasLast, MayLook, PutsLast};
 ghost use Rattle.stm_turns.specs.InFront.{FindsWhether};
 ghost use Rattle.stm_turns.specs.Turns.{HasHome, InTurn, LooksAtAll, Stepped, SteppedOn, found_in};

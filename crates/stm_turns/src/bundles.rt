@@ -1,8 +1,8 @@
 //! The bundle of the records in hand is persisted, or they stay in their boxes.
 
-ghost use Rattle.std.specs.Prelude.{◌≡◌, ◌+◌, ◌<◌, [], IfOk, true, false};
 ghost use Rattle.back_store.specs.BackView.{state_of};
 ghost use Rattle.dude_base.specs.Records.{first_of};
+ghost use Rattle.std.specs.Prelude.{◌≡◌, ◌+◌, ◌<◌, [], IfOk, true, false};
 ghost use Rattle.stm_turns.specs.Bundles.{FoundFull, InTurnWith, IsFullStill, SteppedBy};
 ghost use Rattle.stm_turns.specs.Turns.{Advanced, LivesBy, RisesTo};
 

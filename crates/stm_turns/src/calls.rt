@@ -1,7 +1,7 @@
 //! The thread with the turn announces and reproduces.
 
-ghost use Rattle.std.specs.Prelude.{IfOk, OnOk};
 ghost use Rattle.back_store.specs.BackView.{state_of};
+ghost use Rattle.std.specs.Prelude.{IfOk, OnOk};
 ghost use Rattle.stm_turns.specs.Turns.{AdvancedOn, EndsSettled, FailsBy, HasHome, IsAnnounced, KeepsPast, KeepsPlaces, SteppedOn};
 
 use crate::raises::{raise_durable, raise_reproduced};

@@ -1,9 +1,9 @@
 //! The table is closed by the last seat.
 
-ghost use Rattle.std.specs.Prelude.{◌≡◌, ◌+◌, false};
-ghost use Rattle.std.specs.Mem.Slots.{slots_items, slots_len, IsFull};
 ghost use Rattle.core_events.specs.Telling.{HasAll};
 ghost use Rattle.core_table.specs.Steps.{BelongsTo, HasCounts};
+ghost use Rattle.std.specs.Mem.Slots.{slots_items, slots_len, IsFull};
+ghost use Rattle.std.specs.Prelude.{◌≡◌, ◌+◌, false};
 ghost use Rattle.stm_slots.specs.Closed.{IsClosed};
 ghost use Rattle.stm_slots.specs.Opening.{setup_of};
 ghost use Rattle.stm_slots.specs.Queues.{back_slot};

@@ -1,8 +1,8 @@
 //! Records in hand whose numbers follow one another, and the bundle that joins them.
 
-ghost use Rattle.std.specs.Prelude.{◌≡◌, ◌<◌, ◌≤◌, true, false, length, slice_index, MatchBool};
 ghost use Rattle.dude_base.specs.Joins.{places_of};
 ghost use Rattle.redo_record.specs.Record.{cells_for};
+ghost use Rattle.std.specs.Prelude.{◌≡◌, ◌<◌, ◌≤◌, true, false, length, slice_index, MatchBool};
 ghost use Rattle.stm_turns.specs.Gathered.{BeginsWith, LeavesNext, TakesNext};
 
 use crate::places::next_place;

@@ -1,7 +1,7 @@
 //! The records in hand go: their boxes are emptied where they were handed over, or they are put back.
 
-ghost use Rattle.std.specs.Prelude.{◌≡◌, ◌+◌, ◌≤◌, []};
 ghost use Rattle.dude_base.specs.declared.limits.TheConstants.{MAX_SPAN};
+ghost use Rattle.std.specs.Prelude.{◌≡◌, ◌+◌, ◌≤◌, []};
 ghost use Rattle.stm_turns.specs.Bundles.{EmptiesFirst, MayEmptyAll, MayEmptyFirst, MayPutAllBack, MayPutFirst, PutsFirst};
 ghost use Rattle.stm_turns.specs.Turns.{Stepped};
 

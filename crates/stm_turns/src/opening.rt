@@ -1,8 +1,8 @@
 //! The table of running transactions is made.
 
-ghost use Rattle.std.specs.Prelude.{◌≡◌, ◌≤◌, ◌^◌, IfOk, IfErr};
 ghost use Rattle.core_events.specs.Setups.{IsSetup};
 ghost use Rattle.core_table.specs.Steps.{IsOpened};
+ghost use Rattle.std.specs.Prelude.{◌≡◌, ◌≤◌, ◌^◌, IfOk, IfErr};
 ghost use Rattle.stm_slots.specs.Beside.{nothing_beside};
 ghost use Rattle.stm_slots.specs.Opened.{IsFirst};
 ghost use Rattle.stm_slots.specs.Opening.{setup_of};

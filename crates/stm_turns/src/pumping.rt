@@ -1,9 +1,9 @@
 //! A turn that persists what the boxes of all threads have.
 
-ghost use Rattle.std.specs.Prelude.{◌≡◌, Some, [], IfOk, IfErr};
 ghost use Rattle.core_events.specs.Conditions.{May};
 ghost use Rattle.core_events.specs.Events.{take_turn as turn_taken};
 ghost use Rattle.core_table.specs.Steps.{BelongsTo};
+ghost use Rattle.std.specs.Prelude.{◌≡◌, Some, [], IfOk, IfErr};
 ghost use Rattle.stm_turns.specs.Pump.{HasPumped, HasPumpFault};
 ghost use Rattle.stm_turns.specs.Turns.{DurableRises, IsBare};
 

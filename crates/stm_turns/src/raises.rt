@@ -1,7 +1,7 @@
 //! The words of the numbers are raised.
 
-ghost use Rattle.std.specs.Prelude.{◌≡◌, ℕ};
 ghost use Rattle.back_store.specs.BackView.{state_of};
+ghost use Rattle.std.specs.Prelude.{◌≡◌, ℕ};
 ghost use Rattle.stm_turns.specs.Turns.{AdvancedOn, HasHome, HasShown, MayRaise, SteppedOn};
 
 use crate::slots::SlotSeat;

@@ -1,8 +1,8 @@
 //! The records of full boxes are persisted in bundles, and made durable and reproduced.
 
-ghost use Rattle.std.specs.Prelude.{◌≡◌, ◌≤◌, ◌<◌, ◌+◌, ℕ, [], slice_index, IfOk, IfSome, IfNone, false};
-ghost use Rattle.dude_base.specs.declared.limits.TheConstants.{MAX_RINGS, MAX_SPAN};
 ghost use Rattle.back_store.specs.BackView.{state_of};
+ghost use Rattle.dude_base.specs.declared.limits.TheConstants.{MAX_RINGS, MAX_SPAN};
+ghost use Rattle.std.specs.Prelude.{◌≡◌, ◌≤◌, ◌<◌, ◌+◌, ℕ, [], slice_index, IfOk, IfSome, IfNone, false};
 ghost use Rattle.stm_turns.specs.Bundles.{NextIsNotDrawn};
 ghost use Rattle.stm_turns.specs.InFront.{AreLeft, IsLeast, NoneToTake};
 ghost use Rattle.stm_turns.specs.Turns.{Advanced, EndsSettled, FailsBy, InTurn, IsOwn, LivesBy, RisesTo};

@@ -1,8 +1,8 @@
 //! What stands in the slot that a seat took last.
 
-ghost use Rattle.std.specs.Prelude.{◌≡◌, ◌∷◌};
 ghost use Rattle.atomic_table.specs.Table.{rest};
 ghost use Rattle.core_table.specs.Steps.{IsSameSeat};
+ghost use Rattle.std.specs.Prelude.{◌≡◌, ◌∷◌};
 ghost use Rattle.stm_slots.specs.declared.slot.Slot.TheVariants.{Empty, Record};
 ghost use Rattle.stm_turns.specs.Turns.{FrontRecord};
 

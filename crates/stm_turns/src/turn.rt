@@ -1,10 +1,10 @@
 //! The turn is taken and given.
 
-ghost use Rattle.std.specs.Prelude.{◌≡◌, true, [], IfOk, IfErr, OnErr};
 ghost use Rattle.back_store.specs.BackView.{state_of};
 ghost use Rattle.core_events.specs.Conditions.{May};
 ghost use Rattle.core_events.specs.Events.{give_turn as turn_given, take_turn as turn_taken};
 ghost use Rattle.core_table.specs.Steps.{BelongsTo, IsAfter};
+ghost use Rattle.std.specs.Prelude.{◌≡◌, true, [], IfOk, IfErr, OnErr};
 ghost use Rattle.stm_slots.specs.Lists.{IsSettled};
 ghost use Rattle.stm_turns.specs.Turns.{HasTaken, InTurn, IsBare, IsOthers};
 

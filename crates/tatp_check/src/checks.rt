@@ -1,10 +1,10 @@
 //! The check of an array of home words.
 
-ghost use Rattle.std.specs.Prelude.{◌≡◌, ◌*◌, IfErr, OnOk, length};
 ghost use Rattle.dude_base.specs.declared.limits.TheConstants.{PAGE};
-ghost use Rattle.tatp_layout.specs.StandsFor.{IsLawful};
+ghost use Rattle.std.specs.Prelude.{◌≡◌, ◌*◌, IfErr, OnOk, length};
 ghost use Rattle.tatp_check.specs.Faults.{IsCause};
 ghost use Rattle.tatp_check.specs.Order.{IsNotDb};
+ghost use Rattle.tatp_layout.specs.StandsFor.{IsLawful};
 
 use crate::check_fault::CheckFault;
 use crate::index_check::check_index;

@@ -1,14 +1,14 @@
 //! The check of an index: its tree has the keys of the subscribers by location, or its first wrong word is named.
 
-ghost use Rattle.std.specs.Prelude.{◌≡◌, ◌*◌, All, IfErr, IfOk, OnOk, length};
 ghost use Rattle.dude_base.specs.declared.limits.TheConstants.{PAGE};
-ghost use Rattle.tatp_layout.specs.Decoding.{subscriber_in};
-ghost use Rattle.tatp_layout.specs.Index.{location_key};
-ghost use Rattle.tree_index.specs.Tree.{FitsTree};
-ghost use Rattle.tatp_check.specs.declared.table_kind.TableKind.TheVariants.{Subscribers};
+ghost use Rattle.std.specs.Prelude.{◌≡◌, ◌*◌, All, IfErr, IfOk, OnOk, length};
 ghost use Rattle.tatp_check.specs.Faults.{IsCause};
 ghost use Rattle.tatp_check.specs.IndexFaults.{FindsLeafless, HasSmallKey, IsWholeIndex, IsWrongIndex, IsWrongWhere, StandsWhere, TestsLeaf, location_keys};
 ghost use Rattle.tatp_check.specs.Walked.{AreWalked, records_of_kind};
+ghost use Rattle.tatp_check.specs.declared.table_kind.TableKind.TheVariants.{Subscribers};
+ghost use Rattle.tatp_layout.specs.Decoding.{subscriber_in};
+ghost use Rattle.tatp_layout.specs.Index.{location_key};
+ghost use Rattle.tree_index.specs.Tree.{FitsTree};
 
 use crate::check_fault::CheckFault;
 use crate::taken::Taken;

@@ -1,7 +1,7 @@
 //! The pool of a table or a tree is checked behind the walk that took records of it, and the first wrong word is named.
 
-ghost use Rattle.std.specs.Prelude.{◌≡◌, OnOk, IfErr, length};
 ghost use Rattle.record_heap.specs.Pool.{FitsPool};
+ghost use Rattle.std.specs.Prelude.{◌≡◌, OnOk, IfErr, length};
 ghost use Rattle.tatp_check.specs.Faults.{NamesWord};
 ghost use Rattle.tatp_check.specs.PoolWalk.{AreApartMarked, FollowsFree, RefusesFree};
 ghost use Rattle.tatp_check.specs.Pools.{HasWholePool, IsWrongPool};

@@ -1,7 +1,7 @@
 //! The references between the records of the five tables, and the first one that is wrong.
 
-ghost use Rattle.std.specs.Prelude.{◌≡◌, ◌<◌, ◌*◌, ◌↔◌, ◌+◌, Contains, IfSome, IsSomeAnd, IsTrue, length, slice_index};
 ghost use Rattle.dude_base.specs.declared.limits.TheConstants.{PAGE};
+ghost use Rattle.std.specs.Prelude.{◌≡◌, ◌<◌, ◌*◌, ◌↔◌, ◌+◌, Contains, IfSome, IsSomeAnd, IsTrue, length, slice_index};
 ghost use Rattle.tatp_check.specs.References.{FindsFirstUnbound, FindsUnbound, Refers, reference_offset};
 ghost use Rattle.tatp_check.specs.Walked.{AreWalked, records_of_kind};
 

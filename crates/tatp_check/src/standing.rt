@@ -1,10 +1,10 @@
 //! The tables for which an array of home words stands.
 
-ghost use Rattle.std.specs.Prelude.{◌≡◌, ◌*◌, IfOk, length};
 ghost use Rattle.dude_base.specs.declared.limits.TheConstants.{PAGE};
-ghost use Rattle.tatp_model.specs.Database.{database_of};
-ghost use Rattle.tatp_layout.specs.StandsFor.{IsLawful, StandsFor};
+ghost use Rattle.std.specs.Prelude.{◌≡◌, ◌*◌, IfOk, length};
 ghost use Rattle.tatp_check.specs.Walked.{AreWalked, database_in};
+ghost use Rattle.tatp_layout.specs.StandsFor.{IsLawful, StandsFor};
+ghost use Rattle.tatp_model.specs.Database.{database_of};
 
 use crate::check_fault::CheckFault;
 use crate::rows::rows_at;

@@ -1,8 +1,8 @@
 //! The five tables by their kinds, each with where it stands and what its records may hold.
 
-ghost use Rattle.std.specs.Prelude.{◌≡◌, ◌*◌};
 ghost use Rattle.dude_base.specs.declared.limits.TheConstants.{PAGE};
 ghost use Rattle.hash_table.specs.Table.{FitsTable};
+ghost use Rattle.std.specs.Prelude.{◌≡◌, ◌*◌};
 ghost use Rattle.tatp_check.specs.Content.{table_of};
 
 use crate::content::Content;

@@ -1,8 +1,8 @@
 //! The records in the chains of a table, also by their keys.
 
-ghost use Rattle.std.specs.Ordering.{nat_cmp};
-ghost use Rattle.std.specs.BTreeMap.{IsOrdered};
 ghost use Rattle.std.proofs.Props.{props};
+ghost use Rattle.std.specs.BTreeMap.{IsOrdered};
+ghost use Rattle.std.specs.Ordering.{nat_cmp};
 
 use std::alloc::{AllocError, Global};
 use std::collections::BTreeMap;

@@ -1,13 +1,13 @@
 //! A tree is walked through, depth first, and then its two pools are checked; the first wrong word is named.
 
-ghost use Rattle.std.specs.Prelude.{◌≡◌, ◌<◌, ◌↔◌, Contains, IfErr, IfOk, IsTrue, OnOk, length, slice_index};
-ghost use Rattle.std.specs.List.Sorted.{IsNonDecreasing};
 ghost use Rattle.record_heap.specs.Pool.{IsRecord};
-ghost use Rattle.tree_index.specs.Tree.{FitsTree};
+ghost use Rattle.std.specs.List.Sorted.{IsNonDecreasing};
+ghost use Rattle.std.specs.Prelude.{◌≡◌, ◌<◌, ◌↔◌, Contains, IfErr, IfOk, IsTrue, OnOk, length, slice_index};
 ghost use Rattle.tatp_check.specs.Faults.{IsCause};
 ghost use Rattle.tatp_check.specs.TreeFaults.{IsWrongInTree, IsWrongOnWalk, IsWrongTree};
 ghost use Rattle.tatp_check.specs.TreeSeen.{GoesDown, HasMetNone, KeepsTree, KnowsNext, KnowsTree, KnowsTurns, MeetsMore, RefusesFork};
 ghost use Rattle.tatp_check.specs.TreeWalk.{IsBareTree};
+ghost use Rattle.tree_index.specs.Tree.{FitsTree};
 
 use crate::check_fault::CheckFault;
 use crate::pool_walk::check_pool;

@@ -1,8 +1,8 @@
 //! A table is walked through, chain by chain and then through its pool, and the first wrong word is named.
 
-ghost use Rattle.std.specs.Prelude.{◌<◌, IfOk, IfErr, length};
-ghost use Rattle.record_heap.specs.Pool.{IsRecord};
 ghost use Rattle.hash_table.specs.Table.{FitsTable};
+ghost use Rattle.record_heap.specs.Pool.{IsRecord};
+ghost use Rattle.std.specs.Prelude.{◌<◌, IfOk, IfErr, length};
 ghost use Rattle.tatp_check.specs.Faults.{IsCause, IsFirstWrong, IsInChains};
 ghost use Rattle.tatp_check.specs.Seen.{FollowsChain, IsFirstWrongBehind, KnowsChains, RefusesRecord, TakesIn};
 ghost use Rattle.tatp_check.specs.Whole.{KeepsWhole};

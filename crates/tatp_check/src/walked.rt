@@ -1,13 +1,13 @@
 //! The records of the five tables, as walks through them find them.
 
-ghost use Rattle.std.specs.Prelude.{◌≡◌, ◌*◌, IfErr, IfOk, length};
 ghost use Rattle.dude_base.specs.declared.limits.TheConstants.{PAGE};
 ghost use Rattle.hash_table.specs.Table.{FitsTable};
-ghost use Rattle.tatp_check.specs.Faults.{IsCause};
-ghost use Rattle.tatp_check.specs.Whole.{KeepsWhole};
+ghost use Rattle.std.specs.Prelude.{◌≡◌, ◌*◌, IfErr, IfOk, length};
 ghost use Rattle.tatp_check.specs.Content.{content_of, table_of};
+ghost use Rattle.tatp_check.specs.Faults.{IsCause};
 ghost use Rattle.tatp_check.specs.Order.{IsFirstWrongIn, IsInTables};
 ghost use Rattle.tatp_check.specs.Walked.{AreWalked, taken_of};
+ghost use Rattle.tatp_check.specs.Whole.{KeepsWhole};
 
 use crate::check_fault::CheckFault;
 use crate::table_kind::TableKind;

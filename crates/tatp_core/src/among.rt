@@ -1,11 +1,11 @@
 //! Subscribers are located among rows.
 
-ghost use Rattle.std.specs.Prelude.{◌≡◌, All, IfOk, map};
-ghost use Rattle.std.specs.List.{filter};
 ghost use Rattle.std.specs.List.Sorted.{IsStrictlyIncreasing};
-ghost use Rattle.tatp_model.specs.Database.{IsSubRow};
-ghost use Rattle.tatp_layout.specs.Index.{location_key};
+ghost use Rattle.std.specs.List.{filter};
+ghost use Rattle.std.specs.Prelude.{◌≡◌, All, IfOk, map};
 ghost use Rattle.tatp_core.specs.Located.{Locates, is_within};
+ghost use Rattle.tatp_layout.specs.Index.{location_key};
+ghost use Rattle.tatp_model.specs.Database.{IsSubRow};
 
 use crate::locate::LOCATION;
 use std::alloc::{AllocError, Global};

@@ -1,8 +1,8 @@
 //! `DELETE_CALL_FORWARDING`.
 
 ghost use Rattle.tatp_core.specs.Kinds.{IsDeleteCall};
-ghost use Rattle.tatp_read.specs.Lookups.{CanServe};
 ghost use Rattle.tatp_core.specs.Serves.{ServesRequest};
+ghost use Rattle.tatp_read.specs.Lookups.{CanServe};
 
 use crate::phone::id_of;
 use tatp_layout::Layout;

@@ -1,8 +1,8 @@
 //! `INSERT_CALL_FORWARDING`.
 
 ghost use Rattle.tatp_core.specs.Kinds.{IsInsertCall};
-ghost use Rattle.tatp_read.specs.Lookups.{CanServe};
 ghost use Rattle.tatp_core.specs.Serves.{ServesRequest};
+ghost use Rattle.tatp_read.specs.Lookups.{CanServe};
 
 use crate::phone::id_of;
 use hash_table::put::Put;

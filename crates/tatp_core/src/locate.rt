@@ -1,11 +1,11 @@
 //! Subscribers are located by the index.
 
-ghost use Rattle.std.specs.Prelude.{◌≡◌, ◌≢◌, ◌<◌, ◌≤◌, ◌*◌, ◌^◌, length, IfOk, IfSome};
 ghost use Rattle.dude_base.specs.declared.limits.TheConstants.{PAGE};
-ghost use Rattle.word_space.specs.Steps.{AnswersSeen, MadeAtMost, UsesWords};
+ghost use Rattle.std.specs.Prelude.{◌≡◌, ◌≢◌, ◌<◌, ◌≤◌, ◌*◌, ◌^◌, length, IfOk, IfSome};
+ghost use Rattle.tatp_core.specs.Located.{FindsUpTo, LocatesIn, ReadsWords, locate_reads};
 ghost use Rattle.tree_index.specs.Tree.{FitsTree};
 ghost use Rattle.tree_index.specs.Walk.{next_reads};
-ghost use Rattle.tatp_core.specs.Located.{FindsUpTo, LocatesIn, ReadsWords, locate_reads};
+ghost use Rattle.word_space.specs.Steps.{AnswersSeen, MadeAtMost, UsesWords};
 
 use std::alloc::Global;
 use tatp_layout::Layout;

@@ -1,8 +1,8 @@
 //! `UPDATE_LOCATION`.
 
 ghost use Rattle.tatp_core.specs.Kinds.{IsUpdateLocation};
-ghost use Rattle.tatp_read.specs.Lookups.{CanServe};
 ghost use Rattle.tatp_core.specs.Serves.{ServesRequest};
+ghost use Rattle.tatp_read.specs.Lookups.{CanServe};
 
 use crate::phone::id_of;
 use tatp_layout::{Layout, put_vlr};

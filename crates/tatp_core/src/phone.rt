@@ -1,10 +1,10 @@
 //! The id of the subscriber with a phone number.
 
-ghost use Rattle.std.specs.Prelude.{◌≡◌, ◌↔◌, ◌*◌, IfOk, IfSome, IsTrue};
 ghost use Rattle.dude_base.specs.declared.limits.TheConstants.{PAGE};
-ghost use Rattle.word_space.specs.Steps.{AnswersSeen, UsesWords};
-ghost use Rattle.tatp_model.specs.Ranges.{IsId};
+ghost use Rattle.std.specs.Prelude.{◌≡◌, ◌↔◌, ◌*◌, IfOk, IfSome, IsTrue};
 ghost use Rattle.tatp_core.specs.Phones.{FindsId, id_reads};
+ghost use Rattle.tatp_model.specs.Ranges.{IsId};
+ghost use Rattle.word_space.specs.Steps.{AnswersSeen, UsesWords};
 
 use tatp_layout::Layout;
 use word_space::stop::Stop;

@@ -1,12 +1,12 @@
 //! A request is answered from the words of a home, and its writes are left pending in them.
 
-ghost use Rattle.std.specs.Prelude.{◌≡◌, ◌*◌, [], false};
 ghost use Rattle.dude_base.specs.declared.limits.TheConstants.{PAGE};
+ghost use Rattle.std.specs.Prelude.{◌≡◌, ◌*◌, [], false};
+ghost use Rattle.tatp_core.specs.Reads.{IsRead};
+ghost use Rattle.tatp_core.specs.Serves.{ServesRequest};
 ghost use Rattle.tatp_model.specs.OneThread.{is_sync};
 ghost use Rattle.tatp_model.specs.Request.{IsInRange};
 ghost use Rattle.tatp_read.specs.Lookups.{AnswersRequest, CanServe};
-ghost use Rattle.tatp_core.specs.Reads.{IsRead};
-ghost use Rattle.tatp_core.specs.Serves.{ServesRequest};
 
 use crate::delete::write_delete;
 use crate::insert::write_insert;

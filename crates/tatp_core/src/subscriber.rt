@@ -1,8 +1,8 @@
 //! `UPDATE_SUBSCRIBER_DATA`.
 
 ghost use Rattle.tatp_core.specs.Kinds.{IsUpdateSubscriber};
-ghost use Rattle.tatp_read.specs.Lookups.{CanServe};
 ghost use Rattle.tatp_core.specs.Serves.{ServesRequest};
+ghost use Rattle.tatp_read.specs.Lookups.{CanServe};
 
 use tatp_layout::keys::kind_key;
 use tatp_layout::{Layout, put_bit1, put_data_a};

@@ -1,7 +1,7 @@
 //! The records of request files.
 
-ghost use Rattle.std.specs.Prelude.{◌≡◌, [], drop, get_or};
 ghost use Rattle.csv.specs.Records.{fields_of};
+ghost use Rattle.std.specs.Prelude.{◌≡◌, [], drop, get_or};
 ghost use Rattle.tatp_text.specs.RequestRecord.{request_of, start_time_in, sync_of, get_subscriber_of, get_destination_of, get_access_of, update_subscriber_of, update_location_of, insert_call_of, delete_call_of};
 
 use csv::ByteRecord;

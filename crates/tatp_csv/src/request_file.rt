@@ -1,8 +1,8 @@
 //! Request files.
 
 ghost use Rattle.std.specs.Prelude.{◌≡◌, All, Ok, IfOk, IfErr};
-ghost use Rattle.tatp_model.specs.Request.{IsInRange};
 ghost use Rattle.tatp_csv.specs.RequestFile.{requests_of, HasCause};
+ghost use Rattle.tatp_model.specs.Request.{IsInRange};
 
 use crate::record::request_of;
 use crate::rows::{next_row, rows_of};

@@ -1,7 +1,7 @@
 //! The rows of a text.
 
-ghost use Rattle.std.specs.Prelude.{◌≡◌, IfOk, IfErr};
 ghost use Rattle.csv.specs.Reading.{records, default_config, strip_bom};
+ghost use Rattle.std.specs.Prelude.{◌≡◌, IfOk, IfErr};
 ghost use Rattle.tatp_csv.specs.Rows.{IsReading, rows_left, TakesRow};
 
 use csv::{ByteRecord, ErrorKind, Reader, ReaderBuilder};

@@ -1,13 +1,13 @@
 //! Access rows in their records.
 
-ghost use Rattle.std.specs.Prelude.{◌≡◌, ◌*◌};
 ghost use Rattle.dude_base.specs.declared.limits.TheConstants.{PAGE, ROW_WORDS};
 ghost use Rattle.record_heap.specs.Pool.{IsRecord};
-ghost use Rattle.tatp_model.specs.Database.{IsAccessRow};
+ghost use Rattle.std.specs.Prelude.{◌≡◌, ◌*◌};
 ghost use Rattle.tatp_layout.specs.Decoding.{access_in};
 ghost use Rattle.tatp_layout.specs.Layout.{access_table};
 ghost use Rattle.tatp_layout.specs.RecordCalls.{ReadsRow};
 ghost use Rattle.tatp_layout.specs.Records.{access_form};
+ghost use Rattle.tatp_model.specs.Database.{IsAccessRow};
 
 use crate::digits::digits;
 use crate::layout::Layout;

@@ -1,14 +1,14 @@
 //! Call rows in their records.
 
-ghost use Rattle.std.specs.Prelude.{◌≡◌, ◌*◌};
 ghost use Rattle.dude_base.specs.declared.limits.TheConstants.{PAGE, ROW_WORDS};
-ghost use Rattle.word_space.specs.Steps.{ChangesSeen, Shows, UsesWords, WritesAsMany};
 ghost use Rattle.record_heap.specs.Pool.{IsRecord};
-ghost use Rattle.tatp_model.specs.Database.{IsCallRow};
+ghost use Rattle.std.specs.Prelude.{◌≡◌, ◌*◌};
 ghost use Rattle.tatp_layout.specs.Decoding.{call_in};
 ghost use Rattle.tatp_layout.specs.Layout.{call_table};
 ghost use Rattle.tatp_layout.specs.RecordCalls.{HoldsCall, ReadsRow, with_call};
 ghost use Rattle.tatp_layout.specs.Records.{call_form};
+ghost use Rattle.tatp_model.specs.Database.{IsCallRow};
+ghost use Rattle.word_space.specs.Steps.{ChangesSeen, Shows, UsesWords, WritesAsMany};
 
 use crate::layout::Layout;
 use crate::record_row::{RecordRow, get_row};

@@ -1,14 +1,14 @@
 //! Facilities in their records.
 
-ghost use Rattle.std.specs.Prelude.{◌≡◌, ◌*◌, ◌+◌};
 ghost use Rattle.dude_base.specs.declared.limits.TheConstants.{PAGE, ROW_WORDS};
 ghost use Rattle.record_heap.specs.Pool.{IsRecord};
-ghost use Rattle.tatp_model.specs.Database.{IsFacRow};
-ghost use Rattle.tatp_model.specs.Ranges.{IsByte};
+ghost use Rattle.std.specs.Prelude.{◌≡◌, ◌*◌, ◌+◌};
 ghost use Rattle.tatp_layout.specs.Decoding.{facility_in};
 ghost use Rattle.tatp_layout.specs.Layout.{facility_table};
 ghost use Rattle.tatp_layout.specs.RecordCalls.{ChangesField, ReadsRow, SetsDataA};
 ghost use Rattle.tatp_layout.specs.Records.{facility_form};
+ghost use Rattle.tatp_model.specs.Database.{IsFacRow};
+ghost use Rattle.tatp_model.specs.Ranges.{IsByte};
 
 use crate::digits::digits;
 use crate::layout::Layout;

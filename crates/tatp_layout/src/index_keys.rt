@@ -1,10 +1,10 @@
 //! The keys of subscribers in an index.
 
 ghost use Rattle.std.specs.Prelude.{◌≡◌, ◌+◌, ◌*◌, ◌%◌, ◌^◌};
-ghost use Rattle.word_space.specs.Steps.{ChangesSeen, UsesWords};
+ghost use Rattle.tatp_layout.specs.Index.{MovesKey};
 ghost use Rattle.tree_index.specs.Tree.{FitsTree};
 ghost use Rattle.tree_index.specs.Walk.{replace_reads};
-ghost use Rattle.tatp_layout.specs.Index.{MovesKey};
+ghost use Rattle.word_space.specs.Steps.{ChangesSeen, UsesWords};
 
 use tree_index::tree::Tree;
 use word_space::stop::Stop;

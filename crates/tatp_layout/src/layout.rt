@@ -1,12 +1,12 @@
 //! Where the five tables and the index stand in a home of given sizes.
 
-ghost use Rattle.std.specs.Prelude.{◌≡◌, ◌<◌, ◌≤◌, ◌+◌, ◌*◌, IfOk, IfErr, IfSome};
-ghost use Rattle.dude_base.specs.declared.limits.TheConstants.{PAGE};
-ghost use Rattle.dude_base.specs.Sizes.{IsAccepted, IsFirstOut};
 ghost use Rattle.dude_base.specs.Home.{in_whole_lines, table_words};
+ghost use Rattle.dude_base.specs.Sizes.{IsAccepted, IsFirstOut};
+ghost use Rattle.dude_base.specs.declared.limits.TheConstants.{PAGE};
 ghost use Rattle.hash_table.specs.Table.{FitsTable};
-ghost use Rattle.tree_index.specs.Tree.{FitsTree};
+ghost use Rattle.std.specs.Prelude.{◌≡◌, ◌<◌, ◌≤◌, ◌+◌, ◌*◌, IfOk, IfErr, IfSome};
 ghost use Rattle.tatp_layout.specs.Layout.{access_table, behind_table, call_table, facility_table, index_pool, index_tree, number_table, shape_of, subscriber_table, table_at, tree_from, tree_where};
+ghost use Rattle.tree_index.specs.Tree.{FitsTree};
 
 use dude_base::limits::{LINE, MAX_CALLS, MAX_ROWS, ROW_WORDS, SUBSCRIBER_WORDS};
 use dude_base::size_fault::SizeFault;

@@ -1,12 +1,12 @@
 //! The trait of rows that stand in the records of a table, and the reads of any of them.
 
-ghost use Rattle.std.specs.Prelude.{◌≡◌, ◌+◌, ◌-◌, ◌*◌, ◌≤◌, ℕ, List, length};
 ghost use Rattle.dude_base.specs.declared.limits.TheConstants.{PAGE};
-ghost use Rattle.word_space.specs.Steps.{AnswersSeen, UsesWords};
-ghost use Rattle.record_heap.specs.Pool.{IsRecord};
 ghost use Rattle.hash_table.specs.Walk.{walk_reads};
+ghost use Rattle.record_heap.specs.Pool.{IsRecord};
+ghost use Rattle.std.specs.Prelude.{◌≡◌, ◌+◌, ◌-◌, ◌*◌, ◌≤◌, ℕ, List, length};
 ghost use Rattle.tatp_layout.specs.FoundRows.{FindsRow};
 ghost use Rattle.tatp_layout.specs.RecordCalls.{ReadsRow};
+ghost use Rattle.word_space.specs.Steps.{AnswersSeen, UsesWords};
 
 use crate::layout::Layout;
 use crate::record_words::read_record;
@@ -17,8 +17,8 @@ use word_space::words::Words;
 /// A row that stands in a record of a table of its own, and is known by the record's words.
 pub trait RecordRow: Sized {
     ghost use Rattle.dude_base.specs.declared.sizes.Sizes.{Sizes};
-    ghost use Rattle.hash_table.specs.declared.table.Table.{Table};
     ghost use Rattle.hash_table.specs.Table.{FitsTable};
+    ghost use Rattle.hash_table.specs.declared.table.Table.{Table};
     ghost use Rattle.tatp_layout.specs.RecordWords.{AreOfRecord};
     ghost use Rattle.tatp_layout.specs.Records.{HoldsRow, RowForm};
 

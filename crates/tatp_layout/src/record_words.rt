@@ -1,8 +1,8 @@
 //! The words of a record are read, but for its link.
 
 ghost use Rattle.std.specs.Prelude.{◌+◌, ◌-◌, ◌≤◌, take};
-ghost use Rattle.word_space.specs.Steps.{AnswersSeen, UsesWords};
 ghost use Rattle.tatp_layout.specs.RecordWords.{AreOfRecord};
+ghost use Rattle.word_space.specs.Steps.{AnswersSeen, UsesWords};
 
 use word_space::stop::Stop;
 use word_space::words::Words;

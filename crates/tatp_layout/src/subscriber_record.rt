@@ -1,15 +1,15 @@
 //! Subscribers in their records.
 
-ghost use Rattle.std.specs.Prelude.{◌≡◌, ◌≢◌, ◌+◌, ◌*◌, [], OnOk, slice_set};
 ghost use Rattle.dude_base.specs.declared.limits.TheConstants.{PAGE, SUBSCRIBER_WORDS};
-ghost use Rattle.word_space.specs.Steps.{ChangesSeen, Shows, UsesWords};
 ghost use Rattle.record_heap.specs.Pool.{IsRecord};
-ghost use Rattle.tatp_model.specs.Database.{IsSubRow};
-ghost use Rattle.tatp_model.specs.Ranges.{IsBit, IsLocation};
+ghost use Rattle.std.specs.Prelude.{◌≡◌, ◌≢◌, ◌+◌, ◌*◌, [], OnOk, slice_set};
 ghost use Rattle.tatp_layout.specs.Decoding.{subscriber_in};
 ghost use Rattle.tatp_layout.specs.Layout.{subscriber_table};
 ghost use Rattle.tatp_layout.specs.RecordCalls.{ChangesField, MovesLocation, ReadsRow, SetsBit1, SetsVlr, location_reads, location_writes};
 ghost use Rattle.tatp_layout.specs.Records.{subscriber_form};
+ghost use Rattle.tatp_model.specs.Database.{IsSubRow};
+ghost use Rattle.tatp_model.specs.Ranges.{IsBit, IsLocation};
+ghost use Rattle.word_space.specs.Steps.{ChangesSeen, Shows, UsesWords};
 
 use crate::digits::digits;
 use crate::index_keys::{location_key, move_key};

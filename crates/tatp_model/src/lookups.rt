@@ -1,10 +1,10 @@
 //! The rows that a request names.
 
-ghost use Rattle.std.specs.Prelude.{◌≡◌, ◌≤◌, find, position, length, All, map, filter};
-ghost use Rattle.std.specs.List.{list_any};
 ghost use Rattle.std.specs.List.Sorted.{IsBinarySearchResult, IsSearchInRange, IsStrictlyIncreasing};
-ghost use Rattle.tatp_model.specs.Database.{access_key, facility_key, call_key, IsAccessRow, IsFacRow, IsCallRow, IsKeyFrom, KeysAreBelow};
+ghost use Rattle.std.specs.List.{list_any};
+ghost use Rattle.std.specs.Prelude.{◌≡◌, ◌≤◌, find, position, length, All, map, filter};
 ghost use Rattle.tatp_model.specs.CallOrder.{call_order, IsCountBefore};
+ghost use Rattle.tatp_model.specs.Database.{access_key, facility_key, call_key, IsAccessRow, IsFacRow, IsCallRow, IsKeyFrom, KeysAreBelow};
 ghost use Rattle.tatp_model.specs.Numbers.{numbers_of};
 ghost use Rattle.tatp_model.specs.Transaction.{is_subscriber, has_phone, is_access, is_facility, is_active_facility, is_call, forwards};
 

@@ -1,11 +1,11 @@
 //! `GET_NEW_DESTINATION`.
 
-ghost use Rattle.std.specs.Prelude.{◌≡◌, ◌*◌};
 ghost use Rattle.dude_base.specs.declared.limits.TheConstants.{PAGE};
-ghost use Rattle.word_space.specs.Steps.{AnswersSeen, UsesWords};
+ghost use Rattle.std.specs.Prelude.{◌≡◌, ◌*◌};
 ghost use Rattle.tatp_model.specs.Ranges.{IsId, IsKind, IsStartTime};
 ghost use Rattle.tatp_read.specs.Kinds.{IsGetDestination};
 ghost use Rattle.tatp_read.specs.Lookups.{AnswersRequest, CanServe, FindsActive, FindsPhone, FindsPhones, call_reads, kind_reads};
+ghost use Rattle.word_space.specs.Steps.{AnswersSeen, UsesWords};
 
 use tatp_layout::keys::{first_call_key, kind_key};
 use tatp_layout::{Layout, find_row};

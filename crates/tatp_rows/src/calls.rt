@@ -1,7 +1,7 @@
 //! The table of call rows, and how many rows it has.
 
-ghost use Rattle.std.specs.Prelude.{◌≡◌, ◌+◌, ◌%◌, ◌<◌, ◌≤◌, ◌^◌, length};
 ghost use Rattle.hash_table.specs.Table.{FitsTable};
+ghost use Rattle.std.specs.Prelude.{◌≡◌, ◌+◌, ◌%◌, ◌<◌, ◌≤◌, ◌^◌, length};
 ghost use Rattle.tatp_model.specs.Population.{calls_of, population_calls};
 ghost use Rattle.tatp_rows.specs.Entries.{facility_call_entries};
 ghost use Rattle.tatp_rows.specs.Filling.{Inserts};

@@ -1,8 +1,8 @@
 //! A table is filled record by record, and its free list and its header are written at the end.
 
-ghost use Rattle.std.specs.Prelude.{◌≡◌, ◌+◌, ◌^◌, ◌<◌, ◌≤◌, [], ◌∷◌, length, slice_index};
-ghost use Rattle.record_heap.specs.Pool.{FitsPool};
 ghost use Rattle.hash_table.specs.Table.{FitsTable};
+ghost use Rattle.record_heap.specs.Pool.{FitsPool};
+ghost use Rattle.std.specs.Prelude.{◌≡◌, ◌+◌, ◌^◌, ◌<◌, ◌≤◌, [], ◌∷◌, length, slice_index};
 ghost use Rattle.tatp_rows.specs.Filled.{record_at};
 ghost use Rattle.tatp_rows.specs.Filling.{Finishes, HasEntry, Inserts, KeepsOthers, free_link};
 

@@ -1,11 +1,11 @@
 //! The index of a new database: the tree of the subscribers' locations.
 
-ghost use Rattle.std.specs.Prelude.{◌≡◌, ℕ, ◌*◌, ◌≤◌, IfErr, IfOk, OnOk, length, slice_index};
 ghost use Rattle.dude_base.specs.declared.limits.TheConstants.{PAGE};
-ghost use Rattle.word_space.specs.Flats.{flat_sight, fresh, words_of};
-ghost use Rattle.tree_index.specs.Tree.{FitsTree, InsertsAll};
+ghost use Rattle.std.specs.Prelude.{◌≡◌, ℕ, ◌*◌, ◌≤◌, IfErr, IfOk, OnOk, length, slice_index};
 ghost use Rattle.tatp_layout.specs.Layout.{leaf_base};
 ghost use Rattle.tatp_rows.specs.Populated.{IsIndexedTo, IsPopulated, IsPopulatedTo, StaysBeforeIndex};
+ghost use Rattle.tree_index.specs.Tree.{FitsTree, InsertsAll};
+ghost use Rattle.word_space.specs.Flats.{flat_sight, fresh, words_of};
 
 use crate::fill::finish;
 use crate::rows::subscriber_row;

@@ -1,7 +1,7 @@
 //! The tables that have rows of several kinds for each subscriber: access rows and facilities.
 
-ghost use Rattle.std.specs.Prelude.{◌≡◌, ℕ, ◌+◌, ◌*◌, ◌%◌, ◌<◌, ◌≤◌, ◌^◌, List, length};
 ghost use Rattle.hash_table.specs.Table.{FitsTable};
+ghost use Rattle.std.specs.Prelude.{◌≡◌, ℕ, ◌+◌, ◌*◌, ◌%◌, ◌<◌, ◌≤◌, ◌^◌, List, length};
 ghost use Rattle.tatp_rows.specs.Entries.{of_kinds};
 ghost use Rattle.tatp_rows.specs.Filling.{Inserts};
 
@@ -43,8 +43,8 @@ fn put_kinds<K: OfKinds>(words: &mut [u64], table: &Table, index: u64, s: u64, c
 pub(crate) struct Access;
 
 impl OfKinds for Access {
-    ghost use Rattle.tatp_model.specs.Population.{access_at};
     ghost use Rattle.tatp_layout.specs.Records.{access_form};
+    ghost use Rattle.tatp_model.specs.Population.{access_at};
     ghost use Rattle.tatp_rows.specs.Filling.{entry_of};
 
     ghost entry_at = { λ s kind. entry_of access_form (access_at s kind) };
@@ -75,8 +75,8 @@ impl Populated for Access {
 pub(crate) struct Facilities;
 
 impl OfKinds for Facilities {
-    ghost use Rattle.tatp_model.specs.Population.{facility_at};
     ghost use Rattle.tatp_layout.specs.Records.{facility_form};
+    ghost use Rattle.tatp_model.specs.Population.{facility_at};
     ghost use Rattle.tatp_rows.specs.Filling.{entry_of};
 
     ghost entry_at = { λ s kind. entry_of facility_form (facility_at s kind) };

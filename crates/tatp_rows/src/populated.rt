@@ -1,10 +1,10 @@
 //! The trait of the tables of a new database, and how each is filled.
 
-ghost use Rattle.std.specs.Prelude.{◌≡◌, ℕ, ◌+◌, ◌*◌, ◌<◌, ◌≤◌, ◌^◌, List, length};
 ghost use Rattle.dude_base.specs.declared.limits.TheConstants.{PAGE};
 ghost use Rattle.dude_base.specs.declared.sizes.Sizes.{Sizes};
-ghost use Rattle.hash_table.specs.declared.table.Table.{Table};
 ghost use Rattle.hash_table.specs.Table.{FitsTable};
+ghost use Rattle.hash_table.specs.declared.table.Table.{Table};
+ghost use Rattle.std.specs.Prelude.{◌≡◌, ℕ, ◌+◌, ◌*◌, ◌<◌, ◌≤◌, ◌^◌, List, length};
 ghost use Rattle.tatp_rows.specs.Filling.{FillsUpTo, HasRoomFor, Inserts, IsEmpty, entries_up_to};
 
 use crate::fill::finish;

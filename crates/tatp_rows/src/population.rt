@@ -1,7 +1,7 @@
 //! The home of a new database is made.
 
-ghost use Rattle.std.specs.Prelude.{◌≡◌, ℕ, ◌*◌, ◌≤◌, IfOk, IfErr, OnOk, length, slice_index};
 ghost use Rattle.dude_base.specs.declared.limits.TheConstants.{PAGE};
+ghost use Rattle.std.specs.Prelude.{◌≡◌, ℕ, ◌*◌, ◌≤◌, IfOk, IfErr, OnOk, length, slice_index};
 ghost use Rattle.tatp_model.specs.Population.{population_calls};
 ghost use Rattle.tatp_rows.specs.Causes.{CauseOf};
 ghost use Rattle.tatp_rows.specs.Populated.{IsPopulated, IsPopulatedTo, LawOfPopulation, StandsForPopulation};

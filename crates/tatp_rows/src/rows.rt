@@ -1,7 +1,7 @@
 //! The rows of a new database, by formulas.
 
-ghost use Rattle.std.specs.Prelude.{◌≡◌, ◌+◌, ◌%◌, ◌<◌, ◌≤◌, ◌^◌, map};
 ghost use Rattle.std.specs.List.{range_with_len};
+ghost use Rattle.std.specs.Prelude.{◌≡◌, ◌+◌, ◌%◌, ◌<◌, ◌≤◌, ◌^◌, map};
 ghost use Rattle.tatp_model.specs.Population.{access_at, call_at, facility_at, letters, subscriber_at};
 
 use tatp_model::{AccessData, AccessRow, CallRow, FacRow, SubRow};

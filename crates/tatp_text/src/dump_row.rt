@@ -1,7 +1,7 @@
 //! What has a record in the dump.
 
-ghost use Rattle.std.specs.Prelude.{◌≡◌, ℕ, List, OnOk};
 ghost use Rattle.csv.specs.Records.{fields_of};
+ghost use Rattle.std.specs.Prelude.{◌≡◌, ℕ, List, OnOk};
 ghost use Rattle.tatp_text.specs.Writing.{IsPlain};
 
 use csv::ByteRecord;

@@ -1,7 +1,7 @@
 //! Fields that are added to a record. What an `Err` leaves is of no use: the record that is being made ends with it.
 
-ghost use Rattle.std.specs.Prelude.{◌≡◌, ◌∷◌, [], map, decimal, OnOk};
 ghost use Rattle.csv.specs.Records.{partial_of};
+ghost use Rattle.std.specs.Prelude.{◌≡◌, ◌∷◌, [], map, decimal, OnOk};
 ghost use Rattle.tatp_text.specs.Number.{phone_text};
 ghost use Rattle.tatp_text.specs.Writing.{AddsFields};
 

@@ -1,12 +1,12 @@
 //! How replies print. These functions append to a line that is being made: what they leave where there is no memory
 //! is of no use.
 
-ghost use Rattle.std.specs.Prelude.{◌≡◌, ◌∷◌, map, decimal, OnOk};
 ghost use Rattle.std.specs.List.{flat_map, join_with_byte};
-ghost use Rattle.tatp_text.specs.Appending.{Adds};
-ghost use Rattle.tatp_text.specs.Reply.{row_fields, access_fields, reply_text};
-ghost use Rattle.tatp_text.specs.Number.{phone_text};
+ghost use Rattle.std.specs.Prelude.{◌≡◌, ◌∷◌, map, decimal, OnOk};
 ghost use Rattle.tatp_model.specs.Numbers.{list_of};
+ghost use Rattle.tatp_text.specs.Appending.{Adds};
+ghost use Rattle.tatp_text.specs.Number.{phone_text};
+ghost use Rattle.tatp_text.specs.Reply.{row_fields, access_fields, reply_text};
 
 use crate::number::{push_number, push_phone};
 use std::alloc::AllocError;

@@ -1,10 +1,10 @@
 //! How requests are written.
 
-ghost use Rattle.std.specs.Prelude.{◌≡◌, ◌∷◌, drop, decimal, OnOk, OnErr};
 ghost use Rattle.std.specs.List.{flat_map};
-ghost use Rattle.tatp_text.specs.Number.{phone_text};
+ghost use Rattle.std.specs.Prelude.{◌≡◌, ◌∷◌, drop, decimal, OnOk, OnErr};
 ghost use Rattle.tatp_model.specs.Request.{IsInRange};
 ghost use Rattle.tatp_text.specs.Appending.{Adds};
+ghost use Rattle.tatp_text.specs.Number.{phone_text};
 ghost use Rattle.tatp_text.specs.RequestLine.{fields_text, request_fields, request_line};
 
 use crate::number::{push_number, push_phone};

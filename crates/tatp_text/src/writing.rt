@@ -1,7 +1,7 @@
 //! Records that are written one after another.
 
-ghost use Rattle.std.specs.Prelude.{map, All, OnOk};
 ghost use Rattle.csv.specs.Records.{fields_of};
+ghost use Rattle.std.specs.Prelude.{map, All, OnOk};
 ghost use Rattle.tatp_text.specs.Writing.{IsBetweenRecords, IsPlain, WroteRecord, WroteRecords};
 
 use crate::dump_row::DumpRow;

@@ -1,7 +1,7 @@
 //! The files of a command, read by their names.
 
-ghost use Rattle.std.specs.Prelude.{IfOk};
 ghost use Rattle.command_edges.specs.Files.{AreInRange};
+ghost use Rattle.std.specs.Prelude.{IfOk};
 
 use crate::page::push_count;
 use crate::requests::push_requests;

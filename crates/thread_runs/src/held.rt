@@ -1,7 +1,7 @@
 //! A run of two files on threads, of which one is held up until the other has passed.
 
-ghost use Rattle.std.specs.Prelude.{◌≡◌, [], ◌∷◌, IfSome};
 ghost use Rattle.dude_base.specs.Run.{IsRunWithin};
+ghost use Rattle.std.specs.Prelude.{◌≡◌, [], ◌∷◌, IfSome};
 ghost use Rattle.tatp_model.specs.declared.request.Request.TheVariants.{UpdateLocation};
 
 use crate::image::new_image;

@@ -1,8 +1,8 @@
 //! A new image in memory, opened.
 
-ghost use Rattle.std.specs.Prelude.{◌≡◌, IfSome};
 ghost use Rattle.dude_recover.specs.Opened.{IsOpened};
 ghost use Rattle.run_threads.specs.Ends.{IsAsOpened};
+ghost use Rattle.std.specs.Prelude.{◌≡◌, IfSome};
 
 use command_openings::make_and_open;
 use dude_base::place::Place;

@@ -1,8 +1,8 @@
 //! A stream of two files, whose requests wait for lines that are out.
 
-ghost use Rattle.std.specs.Prelude.{IfOk};
-ghost use Rattle.pmem_trait.specs.Sights.{IsAtRest};
 ghost use Rattle.pmem_fake.specs.Fakes.{sight};
+ghost use Rattle.pmem_trait.specs.Sights.{IsAtRest};
+ghost use Rattle.std.specs.Prelude.{IfOk};
 
 use crate::image::new_image;
 use crate::line_gate::LineGate;

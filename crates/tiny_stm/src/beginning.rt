@@ -8,12 +8,12 @@ use stm_transactions::begin::begin_in;
 use stm_transactions::box_full::BoxFull;
 
 impl<M: Medium> Stm<M> {
-    ghost use Rattle.std.specs.Prelude.{◌≡◌, IfErr, IfOk};
     ghost use Rattle.std.specs.Borrow.{sem, RestsIfErr};
+    ghost use Rattle.std.specs.Prelude.{◌≡◌, IfErr, IfOk};
     ghost use Rattle.stm_slots.specs.contracts.beside.Beside.{the_row as beside_row};
     ghost use Rattle.stm_transactions.specs.Passes.{IsRefused, IsResting};
-    ghost use Rattle.stm_transactions.specs.contracts.pass.Pass.{the_row as pass_row};
     ghost use Rattle.stm_transactions.specs.Transactions.{HasBegun};
+    ghost use Rattle.stm_transactions.specs.contracts.pass.Pass.{the_row as pass_row};
     ghost use Rattle.tiny_stm.specs.Tables.{table_of};
 
     /// Begins a transaction of the pass, where its next box is empty. A clause says what a pass ends as that a result may hold

@@ -1,13 +1,13 @@
 //! The last pass ends the transactions.
 
-ghost use Rattle.std.specs.Prelude.{◌≡◌, ◌+◌, ◌*◌, ◌%◌, ◌<◌, ◌≤◌, [], length};
 ghost use Rattle.dude_base.specs.declared.limits.TheConstants.{PAGE as PAGE_WORDS};
-ghost use Rattle.std.specs.Mem.Slots.{IsFull, slots_filled, slots_items, slots_len};
-ghost use Rattle.std.specs.Vec.{vec_capacity, vec_len};
-ghost use Rattle.tiny_stm.specs.FirstSlots.{IsHomeSlot};
 ghost use Rattle.std.specs.List.Sorted.{IsNonDecreasingBy, IsPermutation};
-ghost use Rattle.tiny_stm.specs.Posts.{number_of};
+ghost use Rattle.std.specs.Mem.Slots.{IsFull, slots_filled, slots_items, slots_len};
+ghost use Rattle.std.specs.Prelude.{◌≡◌, ◌+◌, ◌*◌, ◌%◌, ◌<◌, ◌≤◌, [], length};
+ghost use Rattle.std.specs.Vec.{vec_capacity, vec_len};
 ghost use Rattle.tiny_stm.specs.Collected.{AreCollected, AreCopied, AreOnce, HasPlaces, IsPageCopied, with_slot};
+ghost use Rattle.tiny_stm.specs.FirstSlots.{IsHomeSlot};
+ghost use Rattle.tiny_stm.specs.Posts.{number_of};
 
 use crate::closed::Closed;
 use crate::home_words::words_of;

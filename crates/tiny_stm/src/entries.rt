@@ -1,11 +1,11 @@
 //! The thread with the turn loads the entry of a page, and makes pages absent.
 
-ghost use Rattle.std.specs.Prelude.{◌≡◌, ◌<◌};
 ghost use Rattle.core_events.specs.Events.{entry as entry_loaded, evict as page_evicted};
 ghost use Rattle.core_table.specs.Steps.{IsAfter};
+ghost use Rattle.std.specs.Prelude.{◌≡◌, ◌<◌};
+ghost use Rattle.stm_slots.specs.Turns.{map_evicted};
 ghost use Rattle.tiny_stm.specs.Frames.{IsUnpinned, MayMakeRoom};
 ghost use Rattle.tiny_stm.specs.Paging.{FindsEntry, HandMoved, IsMapOf, Paged};
-ghost use Rattle.stm_slots.specs.Turns.{map_evicted};
 
 use core_table::places::ENTRY;
 use pmem_trait::Medium;

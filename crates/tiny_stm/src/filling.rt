@@ -1,13 +1,13 @@
 //! The words of a page are brought into a frame, and the page is shown.
 
-ghost use Rattle.std.specs.Prelude.{◌≡◌, IfErr, OnErr, OnOk, true};
 ghost use Rattle.back_store.specs.BackView.{state_of};
 ghost use Rattle.core_events.specs.Conditions.{KeepsFrame};
 ghost use Rattle.shadow_pages.specs.PageMap.{IsFree};
-ghost use Rattle.tiny_stm.specs.declared.fetch_fault.FetchFault.TheVariants.{Device};
+ghost use Rattle.std.specs.Prelude.{◌≡◌, IfErr, OnErr, OnOk, true};
 ghost use Rattle.tiny_stm.specs.Filling.{IsFilledIn, MayFill, MayPlace};
 ghost use Rattle.tiny_stm.specs.Frames.{MayMakeRoom};
 ghost use Rattle.tiny_stm.specs.Paging.{Paged};
+ghost use Rattle.tiny_stm.specs.declared.fetch_fault.FetchFault.TheVariants.{Device};
 
 use crate::fetch_fault::FetchFault;
 use core_table::places::ENTRY;

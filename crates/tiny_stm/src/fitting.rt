@@ -1,7 +1,7 @@
 //! Whether a run fits a store.
 
-ghost use Rattle.std.specs.Prelude.{◌↔◌, IsTrue};
 ghost use Rattle.dude_base.specs.Sizes.{IsFrom};
+ghost use Rattle.std.specs.Prelude.{◌↔◌, IsTrue};
 ghost use Rattle.tiny_stm.specs.Fitting.{FitsStore};
 
 use dude_base::limits::{MAX_BOXES, MAX_LOCKS, MIN_FRAMES};

@@ -23,9 +23,9 @@ use stm_transactions::rule::let_transact;
 use stm_turns::{first_home, new_events};
 
 impl<M: Medium> Stm<M> {
-    ghost use Rattle.std.specs.Prelude.{◌≡◌, ◌⊎◌, ◌↔◌, ◌*◌, ◌^◌, ◌≤◌, IfOk, IfErr};
     ghost use Rattle.back_store.specs.BackView.{state_of};
     ghost use Rattle.core_events.specs.Setups.{IsSetup};
+    ghost use Rattle.std.specs.Prelude.{◌≡◌, ◌⊎◌, ◌↔◌, ◌*◌, ◌^◌, ◌≤◌, IfOk, IfErr};
     ghost use Rattle.stm_turns.specs.Starts.{MayStart};
     ghost use Rattle.tiny_stm.specs.Fitting.{FitsStore, Refuses};
     ghost use Rattle.tiny_stm.specs.Rooms.{IsRoom};

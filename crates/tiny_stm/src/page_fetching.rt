@@ -1,14 +1,14 @@
 //! A turn that brings a page into a frame.
 
-ghost use Rattle.std.specs.Prelude.{◌≡◌, ◌<◌, [], IfErr, IfOk, false};
 ghost use Rattle.back_store.specs.BackView.{state_of};
 ghost use Rattle.core_events.specs.Conditions.{May};
 ghost use Rattle.core_events.specs.Events.{take_turn as turn_taken};
 ghost use Rattle.core_table.specs.Steps.{BelongsTo};
+ghost use Rattle.std.specs.Prelude.{◌≡◌, ◌<◌, [], IfErr, IfOk, false};
+ghost use Rattle.stm_turns.specs.Turns.{DurableRises, IsBare, IsOwn};
 ghost use Rattle.tiny_stm.specs.Fetch.{ComesTo, HasFetchFault, HasFetched, SettledTo, KeepsTurn};
 ghost use Rattle.tiny_stm.specs.Frames.{MayMakeRoom};
 ghost use Rattle.tiny_stm.specs.Paging.{HasTurn, Paged};
-ghost use Rattle.stm_turns.specs.Turns.{DurableRises, IsBare, IsOwn};
 
 use crate::entries::see_entry;
 use crate::fetch_fault::FetchFault;

@@ -1,8 +1,8 @@
 //! The memory of running transactions, taken before a table is made.
 
+ghost use Rattle.dude_base.specs.declared.limits.TheConstants.{MAX_BOXES, MAX_RINGS};
 ghost use Rattle.std.specs.Prelude.{◌≡◌, ◌+◌, ◌*◌, ◌≤◌, IfOk, replicate};
 ghost use Rattle.std.specs.Vec.{vec_capacity};
-ghost use Rattle.dude_base.specs.declared.limits.TheConstants.{MAX_BOXES, MAX_RINGS};
 ghost use Rattle.stm_slots.specs.declared.slot.Slot.TheVariants.{Empty};
 ghost use Rattle.tiny_stm.specs.Rooms.{HasFirst};
 
@@ -21,8 +21,8 @@ pub(crate) struct Room<M: Medium> {
 }
 
 impl<M: Medium> Room<M> {
-    ghost use Rattle.std.specs.Prelude.{◌≤◌, IfOk};
     ghost use Rattle.dude_base.specs.declared.limits.TheConstants.{MAX_BOXES, MAX_RINGS};
+    ghost use Rattle.std.specs.Prelude.{◌≤◌, IfOk};
     ghost use Rattle.tiny_stm.specs.Rooms.{IsRoom};
 
     /// Takes it, for so many pages, frames and boxes.

@@ -1,8 +1,8 @@
 //! The tables of new subscribers, on words that threads share.
 
-ghost use Rattle.std.specs.Prelude.{◌≡◌, ◌≤◌, ◌*◌, ◌^◌, All, IfSome, length};
-ghost use Rattle.dude_base.specs.declared.limits.TheConstants.{PAGE as PAGE_WORDS};
 ghost use Rattle.core_events.specs.Setups.{IsSetup};
+ghost use Rattle.dude_base.specs.declared.limits.TheConstants.{PAGE as PAGE_WORDS};
+ghost use Rattle.std.specs.Prelude.{◌≡◌, ◌≤◌, ◌*◌, ◌^◌, All, IfSome, length};
 ghost use Rattle.stm_transactions.specs.Passes.{IsResting};
 ghost use Rattle.transaction_trial.specs.Fit.{AreTermsOf, IsFit, IsOpen};
 

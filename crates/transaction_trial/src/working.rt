@@ -1,11 +1,11 @@
 //! A thread's work: its requests, each tried until it is done.
 
-ghost use Rattle.std.specs.Prelude.{◌≡◌, false, All, IfSome};
-ghost use Rattle.tatp_model.specs.OneThread.{is_sync};
-ghost use Rattle.tatp_model.specs.Request.{IsInRange};
-ghost use Rattle.stm_transactions.specs.Passes.{IsResting};
 ghost use Rattle.request_attempts.specs.AfterOnce.{AfterOnce};
 ghost use Rattle.request_attempts.specs.MayTry.{MayTry};
+ghost use Rattle.std.specs.Prelude.{◌≡◌, false, All, IfSome};
+ghost use Rattle.stm_transactions.specs.Passes.{IsResting};
+ghost use Rattle.tatp_model.specs.OneThread.{is_sync};
+ghost use Rattle.tatp_model.specs.Request.{IsInRange};
 ghost use Rattle.transaction_trial.specs.Fit.{IsFit, IsReady};
 
 use crate::counts::Counts;

@@ -1,11 +1,11 @@
 //! A crit-bit tree over an array of words: a key is inserted, removed, replaced, and the next one found.
 
-ghost use Rattle.std.specs.Prelude.{◌+◌, ◌<◌, ◌^◌, ◌≡◌, IfOk, IfSome, MatchBool};
-ghost use Rattle.word_space.specs.Steps.{AnswersSeen, ChangesSeen, Shows, UsesWords};
 ghost use Rattle.record_heap.specs.Pool.{IsRecord};
+ghost use Rattle.std.specs.Prelude.{◌+◌, ◌<◌, ◌^◌, ◌≡◌, IfOk, IfSome, MatchBool};
 ghost use Rattle.tree_index.specs.Linking.{LinksSpare, PutsBesideAll, PutsFirstAll, Relinks, Unlinks, linked_beside};
 ghost use Rattle.tree_index.specs.Tree.{FindsNext, FitsTree, InsertsAll, RemovesAll, ReplacesAll};
 ghost use Rattle.tree_index.specs.Walk.{FindsLeast, FindsNearest, FitsPosition, FitsTrail, GoesToZeros, IsBelowFrom, IsFrom, IsStep, PlacesBeside, StaysAtRoot, WalksAlong, insert_reads, least_reads, next_reads, remove_reads, replace_reads, turn_by, walk_reads};
+ghost use Rattle.word_space.specs.Steps.{AnswersSeen, ChangesSeen, Shows, UsesWords};
 
 use crate::key_bits;
 use crate::tree_put::TreePut;

@@ -22,8 +22,8 @@ pub struct Flat {
 }
 
 impl Flat {
-    ghost use Rattle.std.specs.Prelude.{◌≡◌, ◌↔◌, [], None, IsTrue};
     ghost use Rattle.dude_base.specs.Writes.{IsWide};
+    ghost use Rattle.std.specs.Prelude.{◌≡◌, ◌↔◌, [], None, IsTrue};
     ghost use Rattle.word_space.specs.Flats.{words_of, flat_sight, fresh, redo_of};
     ghost use Rattle.word_space.specs.Sights.{IsBelow, shown};
     ghost use Rattle.word_space.specs.Sound.{IsWideOrNoMemory};
@@ -92,11 +92,11 @@ impl Flat {
 }
 
 impl Words for Flat {
-    ghost use Rattle.std.specs.Prelude.{◌≡◌, ◌<◌, IfErr};
     ghost use Rattle.std.proofs.Common.{refl, ◌∙◌};
-    ghost use Rattle.word_space.specs.declared.stop.Stop.{Stop};
+    ghost use Rattle.std.specs.Prelude.{◌≡◌, ◌<◌, IfErr};
     ghost use Rattle.word_space.specs.Flats.{flat_sight, flat_well_formed, HasSameWords};
     ghost use Rattle.word_space.specs.Steps.{MakesWrite, Shows, UsesWords, with_word};
+    ghost use Rattle.word_space.specs.declared.stop.Stop.{Stop};
 
     ghost sight = { flat_sight };
 
