@@ -17,7 +17,6 @@ pub mod HomeWrites
 pub mod KeptLanes
 pub mod LaneRecords
 pub mod LaneWrites
-pub mod MappedLanes
 pub mod Merging
 pub mod PutLinesLemmas
 pub mod ReleasedRecords

@@ -65,7 +65,7 @@ impl Sizes {
             index,
         };
         sizes.check_counts()?;
-        sizes.pages = pages_of_home(subscribers, calls, index);
+        sizes.pages = sizes.pages_needed();
         Ok(sizes)
     }
 
@@ -75,12 +75,20 @@ impl Sizes {
         ensures fault { IfErr result (IsFaultOf self.now) }
     {
         self.check_counts()?;
-        if self.pages != pages_of_home(self.subscribers, self.calls, self.index) {
+        if self.pages != self.pages_needed() {
             return Err(SizeFault {
                 field: Field::Pages,
             });
         }
         Ok(())
+    }
+
+    // The pages that its tables and its index need.
+    fn pages_needed(&self) -> u64
+        requires { CountsAreWithin self.now }
+        ensures { result ≡ pages_for self.now.subscribers self.now.calls self.now.index }
+    {
+        pages_of_home(self.subscribers, self.calls, self.index)
     }
 
     // The fields but for the pages.
