@@ -202,7 +202,7 @@ module _ (first limit : ℕ) (db : Database) (files : List (List Request)) (prin
   done = run.done
 
   abbrev order : List Done
-  order = run.run.replies.order
+  order = run.run.replies.numbers.order
 
   abbrev asked : Done → Bool
   asked d = not (is_sync d.request)
@@ -211,7 +211,7 @@ module _ (first limit : ℕ) (db : Database) (files : List (List Request)) (prin
   in_files = in_files_from_holding files done run.run.all
 
   is_there : (d : Done) → Contains done d → is_sync d.request ≡ false → Contains order d
-  is_there d there ask = Contains-permutation (filter asked done) order d run.run.replies.printed.same (contains_filter asked done d there (not_from_false (is_sync d.request) ask))
+  is_there d there ask = Contains-permutation (filter asked done) order d run.run.replies.numbers.printed.same (contains_filter asked done d there (not_from_false (is_sync d.request) ask))
 
   tw : Twins printed claims done
   tw = twins printed claims done run.lines
@@ -231,7 +231,7 @@ module _ (first limit : ℕ) (db : Database) (files : List (List Request)) (prin
       let request : p.0.request ≡ p.1.request = ap (λ (r : IndexedRequest). r.request) line.request in
       ⊎_elim
       (λ sync.
-      let none : p.1.wrote ≡ false = (from_filter (λ (d : Done). is_sync d.request) (λ d. (d.reply ≡ Durable) × (d.wrote ≡ false)) done run.run.replies.syncs p.1 (second_there p there) sync).1 in
+      let none : p.1.wrote ≡ false = (from_filter (λ (d : Done). is_sync d.request) (λ d. (d.reply ≡ Durable) × (d.wrote ≡ false)) done run.run.replies.numbers.syncs p.1 (second_there p there) sync).1 in
       false_from_ne_true p.0.wrote (λ w. both_ways (is_sync p.0.request) (may_no_sync p.0.request (says.0 w).0) (ap is_sync request ∙ sync)) ∙ sym none)
       (λ ask. let a = was_answered p.1 (second_there p there) ask in
       wrote_is limit a.base p.0.request p.1.reply (text_of printed p.0) p.0.wrote (a.reply ∙ ap (reply_to limit a.base) (sym request)) line.text says ∙ sym a.wrote)
@@ -245,12 +245,12 @@ module _ (first limit : ℕ) (db : Database) (files : List (List Request)) (prin
       let d : Done = get_or done i e in
       let f : Done = get_or done j e in
       let inside : i < length done = omega (arith, before, within) in
-      let differ : d.wrote ≡ true → f.wrote ≡ true → d.number ≡ f.number → ⊥ = pairs_from_filter (λ d e. d.number ≡ e.number → ⊥) (λ d. d.wrote) done run.run.replies.distinct i j e before within in
+      let differ : d.wrote ≡ true → f.wrote ≡ true → d.number ≡ f.number → ⊥ = pairs_from_filter (λ d e. d.number ≡ e.number → ⊥) (λ d. d.wrote) done run.run.replies.numbers.distinct i j e before within in
       let place : PrecedesInFiles d f = in_files i j e before within in
       record {
         differs = differ;
         follows = λ ask ask' file. follow d f place differ file
-            (one_or_other (λ x y. Precedes x y × (x.file ≡ y.file → x.index < y.index)) order d f (λ i j e b w. (run.run.replies.printed.sorted i j e b w, run.run.replies.files_in_order i j e b w))
+            (one_or_other (λ x y. Precedes x y × (x.file ≡ y.file → x.index < y.index)) order d f (λ i j e b w. (run.run.replies.numbers.printed.sorted i j e b w, run.run.replies.numbers.files_in_order i j e b w))
             (is_there d (Contains-get_or done i e inside) ask) (is_there f (Contains-get_or done j e within) ask'));
         synced = λ sync file. run.run.syncs_follow i j e before within file sync;
       }
@@ -266,8 +266,8 @@ module _ (first limit : ℕ) (db : Database) (files : List (List Request)) (prin
       let number = a.number in
       record {
         from = rw number (⊎_elim (λ sync. All-contains (λ d. is_sync d.request ≡ true → first ≤ d.number) done p.1 run.run.syncs_from there sync)
-            (λ ask. from_filter asked (λ d. first ≤ d.number) done run.run.replies.from p.1 there (not_from_false (is_sync p.1.request) ask)) (cases_Bool (is_sync p.1.request)));
-        over = λ w. rw number (from_filter (λ (d : Done). d.wrote) (λ d. first < d.number) done run.run.replies.over p.1 there (sym a.wrote ∙ w));
+            (λ ask. from_filter asked (λ d. first ≤ d.number) done run.run.replies.numbers.from p.1 there (not_from_false (is_sync p.1.request) ask)) (cases_Bool (is_sync p.1.request)));
+        over = λ w. rw number (from_filter (λ (d : Done). d.wrote) (λ d. first < d.number) done run.run.replies.numbers.over p.1 there (sym a.wrote ∙ w));
         durable = λ sync. rw number (All-contains (λ d. d.number ≤ last) done p.1 run.run.none_over there);
       }
 
@@ -287,7 +287,7 @@ module _ (first limit : ℕ) (db : Database) (files : List (List Request)) (prin
   kept_claims = ap (filter (λ c. not (claims_sync c))) (sym tw.firsts) ∙ filter_map_same (λ (p : Claim × Done). p.0) (λ c. not (claims_sync c)) (λ p. not (claims_sync p.0)) (λ p. refl) tw.pairs
 
   lifted : Lifted (λ (p : Claim × Done). p.1) kept_pairs order
-  lifted = lift (λ (p : Claim × Done). p.1) kept_pairs order (subst (λ (l : List Done). IsPermutation l order) kept_done run.run.replies.printed.same)
+  lifted = lift (λ (p : Claim × Done). p.1) kept_pairs order (subst (λ (l : List Done). IsPermutation l order) kept_done run.run.replies.numbers.printed.same)
 
   lifted_alike : All (λ p. AreAlike printed p.0 p.1) lifted.list
   lifted_alike = All-permutation (λ p. AreAlike printed p.0 p.1) kept_pairs lifted.list lifted.same (All-filter (λ (p : Claim × Done). not (claims_sync p.0)) (λ p. AreAlike printed p.0 p.1) tw.pairs alike)
@@ -301,7 +301,7 @@ module _ (first limit : ℕ) (db : Database) (files : List (List Request)) (prin
     sorted = pairs_mapped ClaimPrecedes (λ (p : Claim × Done). p.0) lifted.list
         (pairs_among (λ p q. Precedes p.1 q.1) (λ p q. ClaimPrecedes p.0 q.0) lifted.list
         (λ p q tp tq b. lines_precede printed p.0 q.0 p.1 q.1 (All-contains (λ p. AreAlike printed p.0 p.1) lifted.list p lifted_alike tp) (All-contains (λ p. AreAlike printed p.0 p.1) lifted.list q lifted_alike tq) b)
-        (pairs_unmapped Precedes (λ (p : Claim × Done). p.1) lifted.list (subst (λ (l : List Done). AllPairs Precedes l) (sym lifted.is) run.run.replies.printed.sorted)));
+        (pairs_unmapped Precedes (λ (p : Claim × Done). p.1) lifted.list (subst (λ (l : List Done). AllPairs Precedes l) (sym lifted.is) run.run.replies.numbers.printed.sorted)));
   }
 
   pub passes : Passes first limit db printed claims last

@@ -198,26 +198,28 @@ module _ (first limit : ℕ) (db : Database) (files : List (List Request)) (prin
 
   one_thread : RepliesOfOneThread first limit db files done
   one_thread = record {
-    held = (files, prefixes_refl files, all);
-    distinct = rw (filter_map_same made (λ d. d.wrote) (λ c. c.wrote) (λ c. refl) claims)
-        (pairs_mapped (λ d e. d.number ≡ e.number → ⊥) made (filter (λ c. c.wrote) claims)
-        (pairs_among IsBehind (λ c d. c.number ≡ d.number → ⊥) (filter (λ c. c.wrote) claims)
-        (λ c d tc td b. b.differs (filter_contains (λ c. c.wrote) claims d td).1 (filter_contains (λ c. c.wrote) claims c tc).1)
-        (AllPairs-filter IsBehind (λ c. c.wrote) claims behind)));
-    over = among (λ d. d.wrote) (λ d. first < d.number) done
-        (each_done (λ d. d.wrote ≡ true → first < d.number) (keeps_each (λ c. c.wrote ≡ true → first < c.number) (λ earlier c k. k.over)));
-    from = among (λ d. not (is_sync d.request)) (λ d. first ≤ d.number) done
-        (λ d there p. each_done (λ d. first ≤ d.number) (keeps_each (λ c. first ≤ c.number) (λ earlier c k. k.from)) d there);
-    syncs = among (λ d. is_sync d.request) (λ d. (d.reply ≡ Durable) × (d.wrote ≡ false)) done
-        (each_done (λ d. is_sync d.request ≡ true → (d.reply ≡ Durable) × (d.wrote ≡ false))
-        (All-weaker (Contains claims) (λ c. claims_sync c ≡ true → (reply c ≡ Durable) × (c.wrote ≡ false))
-        (λ c there sync. (sync_reply c sync, false_from_ne_true c.wrote (λ w. both_ways (claims_sync c) (no_sync_wrote c there w) sync))) claims (All-contains_itself claims)));
-    order = map made order;
-    printed = record {
-      same = rw (filter_map_same made (λ d. not (is_sync d.request)) (λ c. not (claims_sync c)) (λ c. refl) claims) (IsPermutation-map made kept order passes.printed_so.same);
-      sorted = pairs_mapped Precedes made order passes.printed_so.sorted;
+    numbers = record {
+      held = (files, prefixes_refl files, all);
+      distinct = rw (filter_map_same made (λ d. d.wrote) (λ c. c.wrote) (λ c. refl) claims)
+          (pairs_mapped (λ d e. d.number ≡ e.number → ⊥) made (filter (λ c. c.wrote) claims)
+          (pairs_among IsBehind (λ c d. c.number ≡ d.number → ⊥) (filter (λ c. c.wrote) claims)
+          (λ c d tc td b. b.differs (filter_contains (λ c. c.wrote) claims d td).1 (filter_contains (λ c. c.wrote) claims c tc).1)
+          (AllPairs-filter IsBehind (λ c. c.wrote) claims behind)));
+      over = among (λ d. d.wrote) (λ d. first < d.number) done
+          (each_done (λ d. d.wrote ≡ true → first < d.number) (keeps_each (λ c. c.wrote ≡ true → first < c.number) (λ earlier c k. k.over)));
+      from = among (λ d. not (is_sync d.request)) (λ d. first ≤ d.number) done
+          (λ d there p. each_done (λ d. first ≤ d.number) (keeps_each (λ c. first ≤ c.number) (λ earlier c k. k.from)) d there);
+      syncs = among (λ d. is_sync d.request) (λ d. (d.reply ≡ Durable) × (d.wrote ≡ false)) done
+          (each_done (λ d. is_sync d.request ≡ true → (d.reply ≡ Durable) × (d.wrote ≡ false))
+          (All-weaker (Contains claims) (λ c. claims_sync c ≡ true → (reply c ≡ Durable) × (c.wrote ≡ false))
+          (λ c there sync. (sync_reply c sync, false_from_ne_true c.wrote (λ w. both_ways (claims_sync c) (no_sync_wrote c there w) sync))) claims (All-contains_itself claims)));
+      order = map made order;
+      printed = record {
+        same = rw (filter_map_same made (λ d. not (is_sync d.request)) (λ c. not (claims_sync c)) (λ c. refl) claims) (IsPermutation-map made kept order passes.printed_so.same);
+        sorted = pairs_mapped Precedes made order passes.printed_so.sorted;
+      };
+      files_in_order = pairs_mapped (λ d e. d.file ≡ e.file → d.index < e.index) made order order_index;
     };
-    files_in_order = pairs_mapped (λ d e. d.file ≡ e.file → d.index < e.index) made order order_index;
     one_thread = subst (λ (l : List Done). RepliesAlong limit db l) made_same said.0;
   }
 

@@ -108,25 +108,25 @@ module _ (first limit : ℕ) (db : Database) (files : List (List Request)) (prin
   done_ranges : All (λ d. IsInRange d.request) done
   done_ranges = all_unmapped (λ (r : IndexedRequest). IsInRange r.request) indexed_request_of done (subst (λ (l : List IndexedRequest). All (λ (r : IndexedRequest). IsInRange r.request) l) (sym run.run.all) (all_indexed 0 files ranges))
 
-  order_ranges : All (λ d. IsInRange d.request) run.run.replies.order
-  order_ranges = All-permutation (λ (d : Done). IsInRange d.request) (filter asked done) run.run.replies.order run.run.replies.printed.same (All-filter asked (λ (d : Done). IsInRange d.request) done done_ranges)
+  order_ranges : All (λ d. IsInRange d.request) run.run.replies.numbers.order
+  order_ranges = All-permutation (λ (d : Done). IsInRange d.request) (filter asked done) run.run.replies.numbers.order run.run.replies.numbers.printed.same (All-filter asked (λ (d : Done). IsInRange d.request) done done_ranges)
 
-  all_answered : All (AnsweredInOrder limit) run.run.replies.order
-  all_answered = answered limit db run.run.replies.order (record { order = in_order; room = room }) order_ranges run.run.replies.one_thread
+  all_answered : All (AnsweredInOrder limit) run.run.replies.numbers.order
+  all_answered = answered limit db run.run.replies.numbers.order (record { order = in_order; room = room }) order_ranges run.run.replies.one_thread
 
   prints_one : (d : Done) → Contains done d → Prints d
   prints_one d there =
       let small : d.number ≤ MAX_NUMBER = (let u = All-contains (λ d. d.number ≤ run.last) done d run.run.none_over there in let s = run.small in omega (arith, u, s)) in
       ⊎_elim
       (λ sync.
-      let durable : d.reply ≡ Durable = (All-contains (λ d. (d.reply ≡ Durable) × (d.wrote ≡ false)) (filter (λ (d : Done). is_sync d.request) done) d run.run.replies.syncs (contains_filter (λ (d : Done). is_sync d.request) done d there sync)).0 in
+      let durable : d.reply ≡ Durable = (All-contains (λ d. (d.reply ≡ Durable) × (d.wrote ≡ false)) (filter (λ (d : Done). is_sync d.request) done) d run.run.replies.numbers.syncs (contains_filter (λ (d : Done). is_sync d.request) done d there sync)).0 in
       record {
         small = small;
         whole = subst (λ (r : Reply). HasNo 10 (reply_text r)) (sym durable) durable_whole;
         syncs = (λ is. ap reply_text durable, λ is. sync);
       })
       (λ ask.
-      let a = All-contains (AnsweredInOrder limit) run.run.replies.order d all_answered (Contains-permutation (filter asked done) run.run.replies.order d run.run.replies.printed.same (contains_filter asked done d there (not_from_false (is_sync d.request) ask))) in
+      let a = All-contains (AnsweredInOrder limit) run.run.replies.numbers.order d all_answered (Contains-permutation (filter asked done) run.run.replies.numbers.order d run.run.replies.numbers.printed.same (contains_filter asked done d there (not_from_false (is_sync d.request) ask))) in
       let shown : Shown d.reply = subst Shown (sym a.reply) (shown_reply limit a.base d.request a.order ask) in
       record {
         small = small;

@@ -13,7 +13,7 @@ use Rattle.dude_base.proofs.Overwriting.{length-overwritten, index-overwritten}
 use Rattle.core_events.specs.Keyed.{has, or_else, Distinct}
 use Rattle.core_events.specs.Views.{Entry}
 use Rattle.core_events.specs.Entries.{writes_of, value_at, numbers_written}
-use Rattle.run_order.proofs.Elements.{first_among, other_among, first_or_other}
+use Rattle.tatp_model.proofs.SameElements.{first_among, other_among, first_or_other}
 use Rattle.run_order.specs.Numbers.{Differ}
 use Rattle.legal_entries.specs.Served.{done_of, array_at}
 

@@ -12,7 +12,7 @@ use Rattle.tatp_model.specs.Database.{Database}
 use Rattle.tatp_model.specs.Transaction.{after_request}
 use Rattle.tatp_model.specs.OneThread.{Precedes, after_requests, after_number}
 use Rattle.tatp_model.proofs.Run.{after_requests-append}
-use Rattle.run_order.proofs.Elements.{first_among, other_among, first_or_other}
+use Rattle.tatp_model.proofs.SameElements.{first_among, other_among, first_or_other}
 use Rattle.run_order.proofs.Pairs.{pairs_head, pairs_tail, one_or_other}
 use Rattle.run_order.specs.Numbers.{WroteAt, AreDatabases, HaveSameWriters, LawOfWriters, Differ}
 

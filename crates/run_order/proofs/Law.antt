@@ -141,18 +141,20 @@ module _ (first limit : ℕ) (db : Database) (files : List (List Request)) (perf
 
   one_thread : RepliesOfOneThread first limit db files done
   one_thread = record {
-    held = collects.held;
-    distinct =
-        pairs_among PrecedesInFiles (λ d e. d.number ≡ e.number → ⊥) (filter wrote done)
-        (λ d e c c' before. let here = filter_contains wrote done d c in let there = filter_contains wrote done e c' in
-        numbers_differ d e (one_or_earlier d e (was_performed d here.0) (was_performed e there.0)) before here.1 there.1)
-        (AllPairs-filter PrecedesInFiles wrote done sorted);
-    over = among wrote (λ d. first < d.number) (λ d a w. a.over w);
-    from = among is_printed (λ d. first ≤ d.number) (λ d a p. a.from);
-    syncs = among (λ d. is_sync d.request) (λ d. (d.reply ≡ Durable) × (d.wrote ≡ false)) (λ d a s. a.durable s);
-    order = printed.order;
-    printed = is_printed_order;
-    files_in_order = pairs_among Precedes (λ d e. d.file ≡ e.file → d.index < e.index) printed.order (λ d e c c' before. files_follow d e (one_or_earlier d e (was_printed d c) (was_printed e c')) before) printed.printing.sorted;
+    numbers = record {
+      held = collects.held;
+      distinct =
+          pairs_among PrecedesInFiles (λ d e. d.number ≡ e.number → ⊥) (filter wrote done)
+          (λ d e c c' before. let here = filter_contains wrote done d c in let there = filter_contains wrote done e c' in
+          numbers_differ d e (one_or_earlier d e (was_performed d here.0) (was_performed e there.0)) before here.1 there.1)
+          (AllPairs-filter PrecedesInFiles wrote done sorted);
+      over = among wrote (λ d. first < d.number) (λ d a w. a.over w);
+      from = among is_printed (λ d. first ≤ d.number) (λ d a p. a.from);
+      syncs = among (λ d. is_sync d.request) (λ d. (d.reply ≡ Durable) × (d.wrote ≡ false)) (λ d a s. a.durable s);
+      order = printed.order;
+      printed = is_printed_order;
+      files_in_order = pairs_among Precedes (λ d e. d.file ≡ e.file → d.index < e.index) printed.order (λ d e c c' before. files_follow d e (one_or_earlier d e (was_printed d c) (was_printed e c')) before) printed.printing.sorted;
+    };
     one_thread = printed.printing.along;
   }
 

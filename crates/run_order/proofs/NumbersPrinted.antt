@@ -222,21 +222,10 @@ module _ (first : ℕ) (files : List (List Request)) (done : List Done) (numbere
 
 -- the two parts of what is said of one thread
 parted : (first limit : ℕ) (db : Database) (files : List (List Request)) (done : List Done) → RepliesOfOneThread first limit db files done → RepliesInOrder first limit db files done
-parted first limit db files done r =
-    (record { held = r.held; distinct = r.distinct; over = r.over; from = r.from; syncs = r.syncs; order = r.order; printed = r.printed; files_in_order = r.files_in_order }, r.one_thread)
+parted first limit db files done r = (r.numbers, r.one_thread)
 
 joined : (first limit : ℕ) (db : Database) (files : List (List Request)) (done : List Done) → RepliesInOrder first limit db files done → RepliesOfOneThread first limit db files done
-joined first limit db files done (n, along) = record {
-  held = n.held;
-  distinct = n.distinct;
-  over = n.over;
-  from = n.from;
-  syncs = n.syncs;
-  order = n.order;
-  printed = n.printed;
-  files_in_order = n.files_in_order;
-  one_thread = along;
-}
+joined first limit db files done (numbers, along) = record { numbers = numbers; one_thread = along }
 
 pub law_printed : LawOfPrintedOrder
 law_printed first files done numbered = numbers first files done numbered (result first files done numbered).order (printed_order first files done numbered)

@@ -98,7 +98,7 @@ module _ {X : Type 0} (alike : X → X → Bool) where
   distinct_pairs (x ∷ xs) distinct =
       AllPairs-cons (λ x y. alike x y ≡ false) x xs (All-from_recursion (λ y. alike x y ≡ false) xs distinct.0) (distinct_pairs xs distinct.1)
 
-  pairs_distinct : (xs : List X) → AllPairs (λ x y. alike x y ≡ false) xs → IsDistinct alike xs
+  pub pairs_distinct : (xs : List X) → AllPairs (λ x y. alike x y ≡ false) xs → IsDistinct alike xs
   unfolding IsDistinct
   pairs_distinct [] pairs = tt
   pairs_distinct (x ∷ xs) pairs =

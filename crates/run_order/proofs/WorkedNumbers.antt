@@ -92,7 +92,7 @@ worked_answers =
     (λ n. record { reply = refl; wrote = refl }) (λ n. record { reply = refl; wrote = refl }) (λ n. record { reply = refl; wrote = refl }) (λ n. record { reply = refl; wrote = refl })
 
 -- the law's printed order is that one
-worked_law : (law_replies 3 5 (population 1) files done database worked_numbers worked_databases worked_answers).order ≡ order
+worked_law : (law_replies 3 5 (population 1) files done database worked_numbers worked_databases worked_answers).numbers.order ≡ order
 worked_law =
     let replies = law_replies 3 5 (population 1) files done database worked_numbers worked_databases worked_answers in
-    IsPrintedOrder-unique done replies.order order replies.printed worked_order
+    IsPrintedOrder-unique done replies.numbers.order order replies.numbers.printed worked_order

@@ -39,43 +39,28 @@ update file index number vlr = record { file = file; index = index; number = num
 abbrev read : ℕ → ℕ → ℕ → Request → Reply → Done
 read file index number request reply = record { file = file; index = index; number = number; wrote = false; request = request; reply = reply }
 
+-- subscriber 1 is read, at this location
+abbrev found : ℕ → ℕ → ℕ → ℕ → Done
+found file index number vlr = read file index number (GetSubscriber 1) (subscriber vlr)
+
+-- the last request of the first file, and of the last one
+abbrev synced : Done
+synced = read 0 2 5 Sync Durable
+
+abbrev last : Done
+last = read 3 1 5 (GetAccess 1 1) access
+
 -- after number 3, one round after another
 abbrev performed : List Done
-performed =
-    update 0 0 4 7
-    ∷ read 1 0 4 (GetSubscriber 1) (subscriber 7)
-    ∷ read 3 0 4 (GetSubscriber 1) (subscriber 7)
-    ∷ read 0 1 4 (GetSubscriber 1) (subscriber 7)
-    ∷ update 1 1 5 8
-    ∷ read 3 1 5 (GetAccess 1 1) access
-    ∷ read 0 2 5 Sync Durable
-    ∷ read 1 2 5 (GetSubscriber 1) (subscriber 8)
-    ∷ []
+performed = update 0 0 4 7 ∷ found 1 0 4 7 ∷ found 3 0 4 7 ∷ found 0 1 4 7 ∷ update 1 1 5 8 ∷ last ∷ synced ∷ found 1 2 5 8 ∷ []
 
 -- in order of file and index
 abbrev done : List Done
-done =
-    update 0 0 4 7
-    ∷ read 0 1 4 (GetSubscriber 1) (subscriber 7)
-    ∷ read 0 2 5 Sync Durable
-    ∷ read 1 0 4 (GetSubscriber 1) (subscriber 7)
-    ∷ update 1 1 5 8
-    ∷ read 1 2 5 (GetSubscriber 1) (subscriber 8)
-    ∷ read 3 0 4 (GetSubscriber 1) (subscriber 7)
-    ∷ read 3 1 5 (GetAccess 1 1) access
-    ∷ []
+done = update 0 0 4 7 ∷ found 0 1 4 7 ∷ synced ∷ found 1 0 4 7 ∷ update 1 1 5 8 ∷ found 1 2 5 8 ∷ found 3 0 4 7 ∷ last ∷ []
 
 -- as it is printed: the reads of one number stand by file, also where they were performed the other way round
 abbrev order : List Done
-order =
-    update 0 0 4 7
-    ∷ read 0 1 4 (GetSubscriber 1) (subscriber 7)
-    ∷ read 1 0 4 (GetSubscriber 1) (subscriber 7)
-    ∷ read 3 0 4 (GetSubscriber 1) (subscriber 7)
-    ∷ update 1 1 5 8
-    ∷ read 1 2 5 (GetSubscriber 1) (subscriber 8)
-    ∷ read 3 1 5 (GetAccess 1 1) access
-    ∷ []
+order = update 0 0 4 7 ∷ found 0 1 4 7 ∷ found 1 0 4 7 ∷ found 3 0 4 7 ∷ update 1 1 5 8 ∷ found 1 2 5 8 ∷ last ∷ []
 
 -- each element stands in a relation to the next one
 abbrev IsChain : {X : Type 0} → (X → X → Type 0) → X → List X → Type 0
@@ -124,5 +109,5 @@ worked_order = record {
 }
 
 -- the law's printed order is that one
-worked_law : (law 3 5 (population 1) files performed done worked_performs worked_collects).0.order ≡ order
-worked_law = IsPrintedOrder-unique done (law 3 5 (population 1) files performed done worked_performs worked_collects).0.order order (law 3 5 (population 1) files performed done worked_performs worked_collects).0.printed worked_order
+worked_law : (law 3 5 (population 1) files performed done worked_performs worked_collects).0.numbers.order ≡ order
+worked_law = IsPrintedOrder-unique done (law 3 5 (population 1) files performed done worked_performs worked_collects).0.numbers.order order (law 3 5 (population 1) files performed done worked_performs worked_collects).0.numbers.printed worked_order

@@ -1,28 +1,11 @@
 -- The printed order of requests that were answered at numbers, and what one thread answers along it.
-use Rattle.std.specs.Prelude.{◌≡◌, ℕ, ◌<◌, ◌≤◌, ◌↔◌, not, IsFalse, List, filter, All, AllPairs}
+use Rattle.std.specs.Prelude.{◌≡◌, ℕ, ◌≤◌, ◌↔◌, List}
 use Rattle.tatp_model.specs.declared.request.Request.{Request}
-use Rattle.tatp_model.specs.declared.reply.Reply.TheVariants.{Durable}
 use Rattle.tatp_model.specs.declared.done.Done.{Done}
 use Rattle.tatp_model.specs.Database.{Database}
-use Rattle.tatp_model.specs.OneThread.{is_sync, after_number, HoldsPrefixes, IsPrintedOrder, RepliesAlong, RepliesOfOneThread}
+pub use Rattle.tatp_model.specs.OneThread.{NumbersOfOneThread}
+use Rattle.tatp_model.specs.OneThread.{after_number, IsPrintedOrder, RepliesAlong, RepliesOfOneThread}
 use Rattle.run_order.specs.Numbers.{AreDatabases, AreNumbered, AreAnswered}
-
--- All that `RepliesOfOneThread` says apart from the replies. It needs no database, so it holds also where it isn't known what a
--- medium gives.
-pub record NumbersOfOneThread (first : ℕ) (files : List (List Request)) (done : List Done) : Type 0 where
-  -- each request of the files' prefixes stands in `done` once
-  pub held : HoldsPrefixes files done
-  -- those that wrote have distinct numbers over `first`
-  pub distinct : AllPairs (λ d e. d.number ≡ e.number → ⊥) (filter (λ d. d.wrote) done)
-  pub over : All (λ d. first < d.number) (filter (λ d. d.wrote) done)
-  -- the others that aren't `Sync` have numbers from `first` on
-  pub from : All (λ d. first ≤ d.number) (filter (λ d. not (is_sync d.request)) done)
-  -- a `Sync` is answered `Durable`, and doesn't write
-  pub syncs : All (λ d. (d.reply ≡ Durable) × IsFalse d.wrote) (filter (λ d. is_sync d.request) done)
-  -- the printed order keeps each file's order
-  pub order : List Done
-  pub printed : IsPrintedOrder done order
-  pub files_in_order : AllPairs (λ d e. d.file ≡ e.file → d.index < e.index) order
 
 -- all that `RepliesOfOneThread` says, in two parts: these numbers, and replies that are one thread's along the printed order
 abbrev pub RepliesInOrder : (first limit : ℕ) → Database → (files : List (List Request)) → (done : List Done) → Type 0

@@ -1,18 +1,19 @@
 -- A table in which nothing is wrong is a lawful one whose records hold what they have to, and the other way round.
-use Rattle.std.proofs.Common.{◌≡◌, ◌≢◌, inl, inr, ℕ, zero, suc, ◌+◌, ◌%◌, ◌<◌, ◌≤◌, List, [], ◌∷◌, ◌++◌, length, All, AllPairs, Contains, eqb, slice_index, get_or, sym, ap, ◌∙◌, subst, arith, length-append}
-use Rattle.std.proofs.lemmas.Bool.{cases_eq, cases_order, eqb-false, ne_eqb}
+use Rattle.std.proofs.Common.{◌≡◌, ◌≢◌, inl, inr, ℕ, zero, suc, ◌+◌, ◌%◌, ◌<◌, ◌≤◌, List, [], ◌∷◌, ◌++◌, length, All, AllPairs, Contains, eqb, slice_index, get_or, refl, sym, ap, ◌∙◌, subst, arith, length-append}
+use Rattle.std.proofs.lemmas.Bool.{cases_eq, cases_order, eq-eqb, eqb-false, ne_eqb}
 use Rattle.std.proofs.lemmas.List.{append-nil, get_or_append_left, get_or_default}
 use Rattle.std.proofs.lemmas.List.Elements.{All-contains, All-from_recursion, Contains-append_cases, Contains-append_left, Contains-append_right, Contains-get_or}
-use Rattle.std.proofs.lemmas.List.Sorted.{IsPermutation-refl, IsPermutation-sym, IsPermutation-trans, IsPermutation-cons, IsPermutation-append_comm, IsPermutation-remove, Contains-permutation}
-use Rattle.std.proofs.lemmas.Map.Keys.{IsDistinct-tail, IsDistinct-from_apart, apart_from_distinct, IsDistinct-IsPermutation}
-use Rattle.std.specs.List.{IsDistinct, remove}
+use Rattle.std.proofs.lemmas.List.Sorted.{IsPermutation-refl, IsPermutation-trans, IsPermutation-append_comm}
+use Rattle.std.proofs.lemmas.Map.Keys.{IsDistinct-from_apart, apart_from_distinct}
+use Rattle.std.specs.List.{IsDistinct}
 use Rattle.std.specs.List.Sorted.{IsPermutation}
+use Rattle.tatp_model.proofs.SameElements.{same_elements as once_each}
 use Rattle.record_heap.specs.declared.pool.Pool.{Pool}
 use Rattle.record_heap.specs.Pool.{IsPool, IsRecord, records_of}
 use Rattle.record_heap.proofs.Records.{each_is_record, has_record, none_twice}
 use Rattle.hash_table.specs.declared.table.Table.{Table}
 use Rattle.hash_table.specs.Table.{IsTable, chain_of, records_in}
-use Rattle.hash_table.proofs.Chains.{chain_among, chain_with, first_among, first_or_other, no_element, other_among}
+use Rattle.hash_table.proofs.Chains.{chain_among, chain_with}
 use Rattle.hash_table.proofs.Insertions.{each_record}
 use Rattle.hash_table.proofs.Walks.{path_linked}
 use Rattle.tatp_check.specs.Pools.{IsWholePool}
@@ -37,31 +38,9 @@ flips x y = elim (cases_eq x y) [
   | inr differ ↦ ne_eqb x y differ ∙ sym (ne_eqb y x (λ e. differ (sym e)))
 ]
 
--- the first of a list without repetition is none of the others
-first_apart : (x y : ℕ) (xs : List ℕ) → IsDistinct eqb (x ∷ xs) → Contains xs y → x ≢ y
-first_apart x y xs distinct (k, below, is) same =
-    pairs_from_distinct (x ∷ xs) distinct 0 (suc k) y (omega arith) (omega (arith, below)) (same ∙ sym is)
-
 -- lists without repetition that have the same elements
 pub same_elements : (xs ys : List ℕ) → IsDistinct eqb xs → IsDistinct eqb ys → ((x : ℕ) → Contains xs x → Contains ys x) → ((x : ℕ) → Contains ys x → Contains xs x) → IsPermutation xs ys
-same_elements [] [] dx dy there back = IsPermutation-refl []
-same_elements [] (y ∷ ys) dx dy there back = absurd (no_element y (back y (first_among y ys)))
-same_elements (x ∷ xs) ys dx dy there back =
-    let at = there x (first_among x xs) in
-    let zs = remove ys at.0 in
-    let moved : IsPermutation ys (x ∷ zs) = IsPermutation-remove ys at.0 x at.1 (sym at.2) in
-    let dz : IsDistinct eqb (x ∷ zs) = IsDistinct-IsPermutation eqb flips ys (x ∷ zs) moved dy in
-    IsPermutation-trans (x ∷ xs) (x ∷ zs) ys
-    (IsPermutation-cons x xs zs (same_elements xs zs (IsDistinct-tail eqb x xs dx) (IsDistinct-tail eqb x zs dz)
-    (λ y c. elim (first_or_other y x zs (Contains-permutation ys (x ∷ zs) y moved (there y (other_among y x xs c)))) [
-      | inl same ↦ absurd (first_apart x y xs dx c (sym same))
-      | inr other ↦ other
-    ])
-    (λ y c. elim (first_or_other y x xs (back y (Contains-permutation (x ∷ zs) ys y (IsPermutation-sym ys (x ∷ zs) moved) (other_among y x zs c)))) [
-      | inl same ↦ absurd (first_apart x y zs dz c (sym same))
-      | inr other ↦ other
-    ])))
-    (IsPermutation-sym ys (x ∷ zs) moved)
+same_elements xs ys = once_each eqb (λ x. eq-eqb x x refl) flips xs ys
 
 -- ---- pools
 

@@ -10,6 +10,7 @@ pub mod Retained
 pub mod Rising
 pub mod Rows
 pub mod Run
+pub mod SameElements
 pub mod Sequential
 pub mod WorkedReplies
 mod CallHalves

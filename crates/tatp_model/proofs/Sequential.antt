@@ -51,14 +51,16 @@ RepliesOfOneThread-from_sequential first last limit db prefix requests done run 
     let asked : filter (λ d. not (is_sync d.request)) done ≡ done = filter-uniform true (λ d. not (is_sync d.request)) done (λ k d h. ap not (run.asked k d h)) in
     let no_syncs : filter (λ d. is_sync d.request) done ≡ [] = filter-uniform false (λ d. is_sync d.request) done run.asked in
     record {
-      held = (prefix ∷ [], (is_prefix, tt), run.held);
-      distinct = run.distinct;
-      over = run.over;
-      from = rw asked run.from;
-      syncs = rw no_syncs (All-nil (λ (d : Done). (d.reply ≡ Durable) × (d.wrote ≡ false)));
-      order = done;
-      printed = record { same = rw asked (IsPermutation-refl done); sorted = run.sorted };
-      files_in_order = run.in_turn;
+      numbers = record {
+        held = (prefix ∷ [], (is_prefix, tt), run.held);
+        distinct = run.distinct;
+        over = run.over;
+        from = rw asked run.from;
+        syncs = rw no_syncs (All-nil (λ (d : Done). (d.reply ≡ Durable) × (d.wrote ≡ false)));
+        order = done;
+        printed = record { same = rw asked (IsPermutation-refl done); sorted = run.sorted };
+        files_in_order = run.in_turn;
+      };
       one_thread = run.one_thread;
     }
 

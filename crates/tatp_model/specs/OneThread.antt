@@ -80,9 +80,9 @@ IsPrefixOf prefix requests = (rest : List Request) × (requests ≡ prefix ++ re
 abbrev pub HoldsPrefixes : List (List Request) → List Done → Type 0
 HoldsPrefixes files done = (prefixes : List (List Request)) × AllZip IsPrefixOf prefixes files × AllAreDone prefixes done
 
--- the replies of a run over the files are those of one thread that starts with db after number `first` and performs
--- the requests in their printed order
-pub record RepliesOfOneThread (first limit : ℕ) (db : Database) (files : List (List Request)) (done : List Done) : Type 0 where
+-- What is said of the numbers of a run over the files that starts after number `first`, and of the order in which it is
+-- printed. It needs no database, so it holds also where it isn't known what a medium gives.
+pub record NumbersOfOneThread (first : ℕ) (files : List (List Request)) (done : List Done) : Type 0 where
   -- each request of the files' prefixes stands in `done` once
   pub held : HoldsPrefixes files done
   -- those that wrote have distinct numbers over `first`
@@ -92,8 +92,14 @@ pub record RepliesOfOneThread (first limit : ℕ) (db : Database) (files : List 
   pub from : All (λ d. first ≤ d.number) (filter (λ d. not (is_sync d.request)) done)
   -- a `Sync` is answered `Durable`, and doesn't write
   pub syncs : All (λ d. (d.reply ≡ Durable) × IsFalse d.wrote) (filter (λ d. is_sync d.request) done)
-  -- the printed order keeps each file's order, and one thread gives these replies along it
+  -- the printed order keeps each file's order
   pub order : List Done
   pub printed : IsPrintedOrder done order
   pub files_in_order : AllPairs (λ d e. d.file ≡ e.file → d.index < e.index) order
-  pub one_thread : RepliesAlong limit db order
+
+-- the replies of a run over the files are those of one thread that starts with db after number `first` and performs
+-- the requests in their printed order
+pub record RepliesOfOneThread (first limit : ℕ) (db : Database) (files : List (List Request)) (done : List Done) : Type 0 where
+  pub numbers : NumbersOfOneThread first files done
+  -- one thread gives these replies along the printed order
+  pub one_thread : RepliesAlong limit db numbers.order
