@@ -20,7 +20,7 @@ reference_offset Numbers = 2
 reference_offset _ = 0
 
 -- the order of the tables
-abbrev pub kind_rank : TableKind → ℕ
+abbrev pub kind_rank : (kind : TableKind) → ℕ
 kind_rank Subscribers = 0
 kind_rank Numbers = 1
 kind_rank Access = 2

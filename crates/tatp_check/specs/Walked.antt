@@ -13,7 +13,7 @@ use Rattle.tatp_check.specs.Content.{content_of, table_of}
 use Rattle.tatp_check.specs.declared.walked.Walked.{Walked}
 
 -- what the walk through the table of this kind took in: its records, and the record of each key
-abbrev pub taken_of : Walked → TableKind → Taken
+abbrev pub taken_of : (walked : Walked) (kind : TableKind) → Taken
 taken_of walked Subscribers = walked.subscribers
 taken_of walked Numbers = walked.numbers
 taken_of walked Access = walked.access

@@ -1,5 +1,8 @@
 //! Why an array was refused.
 
+ghost use Rattle.std.specs.Prelude.{◌≡◌};
+ghost use Rattle.tatp_check.specs.declared.check_fault.CheckFault.TheVariants as why;
+
 use std::alloc::AllocError;
 
 /// Why an array was refused.
@@ -12,10 +15,7 @@ pub enum CheckFault {
 }
 
 impl From<AllocError> for CheckFault {
-    ghost use Rattle.std.specs.Prelude.{◌≡◌};
-    ghost use Rattle.tatp_check.specs.declared.check_fault.CheckFault.TheVariants.{NoMemory};
-
-    ghost from_gives = { λ _ fault. fault ≡ NoMemory };
+    ghost from_gives = { λ _ fault. fault ≡ why.NoMemory };
 
     fn from(_refused: AllocError) -> Self {
         CheckFault::NoMemory

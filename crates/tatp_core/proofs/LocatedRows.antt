@@ -10,10 +10,15 @@ use Rattle.std.proofs.lemmas.List.{append-nil, map-append, take-map, take_all, t
 use Rattle.std.proofs.lemmas.List.Elements.{All-filter, All-from_recursion, All-head, All-map, All-tail, recursion_from_All}
 use Rattle.std.proofs.lemmas.List.Kept.{AllPairs-filter}
 use Rattle.std.proofs.lemmas.List.Sorted.{IsNonDecreasingBy-from_sort, IsPermutation-map, IsPermutation-sym}
+use Rattle.dude_base.specs.declared.sizes.Sizes.{Sizes}
 use Rattle.tatp_model.specs.declared.sub_row.SubRow.{SubRow}
-use Rattle.tatp_model.specs.Database.{IsSubRow}
+use Rattle.tatp_model.specs.Database.{Database, IsSubRow}
 use Rattle.tatp_model.proofs.Rising.{pairs_from_rising}
-use Rattle.tatp_layout.specs.Index.{location_key}
+use Rattle.tatp_layout.specs.Index.{HasKeys, location_key}
+use Rattle.tatp_layout.specs.Layout.{index_tree, tree_where}
+use Rattle.tatp_layout.specs.StandsFor.{StandsFor}
+use Rattle.tatp_layout.proofs.Indexes.{with_tree}
+use Rattle.tree_index.specs.declared.tree.Tree.{Tree}
 use Rattle.tree_index.specs.Tree.{IsNext}
 use Rattle.tree_index.proofs.Paths.{flips}
 use Rattle.tatp_core.specs.Located.{IsNextUpTo, Locates, is_within, number_and_location}
@@ -52,6 +57,12 @@ rows_located low high (row ∷ rows) range =
       | inl kept ↦ rw (kept, test ∙ kept) (ap₂ (λ p l. p ∷ l) (same_pair row here) rest)
       | inr dropped ↦ rw (dropped, test ∙ dropped) rest
     ]
+
+-- the tree of a home that has an index has the keys of the subscribers
+pub keys_stand : (s : Sizes) (tree : Tree) {array : List ℕ} {db : Database} → StandsFor s array db → tree_where s.index (index_tree s) ≡ Some tree → HasKeys tree array (map location_key db.subscribers)
+keys_stand s tree {array} {db} stands is =
+    let there = with_tree s.index 0 0 is in
+    subst (λ t. HasKeys t array (map location_key db.subscribers)) there.2 (stands.index there.0)
 
 pub locates : (low high limit : ℕ) (rows : List SubRow) (keys : List ℕ) (found : List (ℕ × ℕ)) → All IsSubRow rows → Rises keys → IsPermutation keys (map location_key rows)
     → found ≡ take limit (map pair_of (filter (is_in (low * 2 ^ 32) (last_key high + 1)) keys)) → Locates low high limit rows found

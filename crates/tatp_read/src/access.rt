@@ -11,8 +11,8 @@ use word_space::words::Words;
 
 /// Answers a `GetAccess` from the words of one chain and of the record.
 pub fn read_access<W: Words>(lay: &Layout, w: &mut W, q: &Request) -> Result<Reply, Stop>
-    requires kind { IsGetAccess q.now }
     requires can { CanServe lay.now q.now (W.sight w.old) }
+    requires kind { IsGetAccess q.now }
     ensures { AnswersRequest W.sight W.turns_into lay.now q.now result w.old w.new }
 {
     let Request::GetAccess { s_id, ai_type } = *q else {

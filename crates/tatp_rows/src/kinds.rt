@@ -2,8 +2,10 @@
 
 ghost use Rattle.hash_table.specs.Table.{FitsTable};
 ghost use Rattle.std.specs.Prelude.{◌≡◌, ℕ, ◌+◌, ◌*◌, ◌%◌, ◌<◌, ◌≤◌, ◌^◌, List, length};
+ghost use Rattle.tatp_layout.specs.Records.{access_form, facility_form};
+ghost use Rattle.tatp_model.specs.Population.{access_at, facility_at};
 ghost use Rattle.tatp_rows.specs.Entries.{of_kinds};
-ghost use Rattle.tatp_rows.specs.Filling.{Inserts};
+ghost use Rattle.tatp_rows.specs.Filling.{Inserts, entry_of};
 
 use crate::fill::put_record;
 use crate::populated::Populated;
@@ -42,15 +44,22 @@ fn put_kinds<K: OfKinds>(words: &mut [u64], table: &Table, index: u64, s: u64, c
 /// The table of access rows: subscriber `s` has `1 + s % 4` of them.
 pub(crate) struct Access;
 
-impl OfKinds for Access {
-    ghost use Rattle.tatp_layout.specs.Records.{access_form};
-    ghost use Rattle.tatp_model.specs.Population.{access_at};
-    ghost use Rattle.tatp_rows.specs.Filling.{entry_of};
+/// The table of facilities: subscriber `s` has `1 + (s + 1) % 4` of them.
+pub(crate) struct Facilities;
 
+impl OfKinds for Access {
     ghost entry_at = { λ s kind. entry_of access_form (access_at s kind) };
 
     fn entry(s: u64, kind: u64) -> [u64; 3] {
         access_entry(&access_row(s, kind))
+    }
+}
+
+impl OfKinds for Facilities {
+    ghost entry_at = { λ s kind. entry_of facility_form (facility_at s kind) };
+
+    fn entry(s: u64, kind: u64) -> [u64; 3] {
+        facility_entry(&facility_row(s, kind))
     }
 }
 
@@ -68,21 +77,6 @@ impl Populated for Access {
 
     fn put(words: &mut [u64], lay: &Layout, index: u64, s: u64) -> u64 {
         put_kinds::<Access>(words, &lay.access(), index, s, 1 + s % 4)
-    }
-}
-
-/// The table of facilities: subscriber `s` has `1 + (s + 1) % 4` of them.
-pub(crate) struct Facilities;
-
-impl OfKinds for Facilities {
-    ghost use Rattle.tatp_layout.specs.Records.{facility_form};
-    ghost use Rattle.tatp_model.specs.Population.{facility_at};
-    ghost use Rattle.tatp_rows.specs.Filling.{entry_of};
-
-    ghost entry_at = { λ s kind. entry_of facility_form (facility_at s kind) };
-
-    fn entry(s: u64, kind: u64) -> [u64; 3] {
-        facility_entry(&facility_row(s, kind))
     }
 }
 

@@ -54,15 +54,16 @@ pub fn access_row(s: u64, a: u64) -> AccessRow
     requires kind { a ≤ 4 }
     ensures { result ≡ access_at s a }
 {
+    let info = AccessData {
+        data1: ((s + a) % 256) as u8,
+        data2: (s * a % 256) as u8,
+        data3: letters_from(s + a),
+        data4: letters_from(s + 2 * a),
+    };
     AccessRow {
         s_id: s,
         ai_type: a,
-        info: AccessData {
-            data1: ((s + a) % 256) as u8,
-            data2: (s * a % 256) as u8,
-            data3: letters_from(s + a),
-            data4: letters_from(s + 2 * a),
-        },
+        info,
     }
 }
 

@@ -9,14 +9,6 @@ use Rattle.tree_index.specs.declared.tree.Tree.{Tree}
 use Rattle.tree_index.specs.Path.{Frame, GoesBy, over_of, plug, slot_of, turn_of}
 use Rattle.tree_index.specs.Shape.{Shape, Leaf, Fork, Holds, IsRadix, bit_of, least_of, link_of}
 
--- the most reads of a walk: the root's link, and two words of each of 64 inner records
-abbrev pub walk_reads : ℕ
-walk_reads = 129
-
--- the most reads on the way to the least key behind a link: the zeros of 64 inner records, and the key
-abbrev pub least_reads : ℕ
-least_reads = 65
-
 -- the most reads of `next`: two walks, the key of a leaf, a link, and the way to the least key behind it, with room to spare
 abbrev pub next_reads : ℕ
 next_reads = 400
@@ -127,6 +119,10 @@ pub record Trails (tree : Tree) (key floor : ℕ) (array : List ℕ) (whole : Sh
   pub last_under : IsUnder array trail.second trail.last
   pub second_under : IsUnder array trail.third trail.second
 
+-- the most reads of a walk: the root's link, and two words of each of 64 inner records
+abbrev pub walk_reads : ℕ
+walk_reads = 129
+
 -- in every way in which the array has a tree, a walk for the key went along this trail
 abbrev pub WalksAlong : Tree → ℕ → ℕ → List ℕ → Trail → Type 0
 WalksAlong tree key floor array trail = (whole : Shape) → IsIn tree array whole → Trails tree key floor array whole trail
@@ -155,6 +151,10 @@ FindsNearest tree key array (Some near) = LeadsTo tree key array near
 pub record GoesToZeros (tree : Tree) (link : ℕ) (array : List ℕ) (next : ℕ) : Type 0 where
   pub inner : IsRecord tree.inner link → next ≡ slice_index array (link + 2)
   pub other : ¬ IsRecord tree.inner link → next ≡ link
+
+-- the most reads on the way to the least key behind a link: the zeros of 64 inner records, and the key
+abbrev pub least_reads : ℕ
+least_reads = 65
 
 -- in every way in which a shape stands behind this link, the answer is its least key
 abbrev pub FindsLeast : Tree → ℕ → List ℕ → Option ℕ → Type 0

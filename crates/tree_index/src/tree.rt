@@ -303,8 +303,8 @@ impl Tree {
         floor: u64,
         near: NearestLeaf,
     ) -> Result<TreePosition, Stop>
-        requires fits { FitsTree self.now (W.sight w.old).count }
         requires trail { FitsTrail self.now (W.sight w.old).count near.trail }
+        requires fits { FitsTree self.now (W.sight w.old).count }
         ensures uses { UsesWords W.sight W.turns_into walk_reads 0 result w.old w.new }
         ensures position { IfOk result (FitsPosition self.now (W.sight w.old).count) }
         ensures walks { AnswersSeen W.sight result w.old w.new

@@ -5,11 +5,10 @@ use Rattle.word_space.specs.Sights.{shown}
 use Rattle.word_space.specs.Steps.{stop_of}
 use Rattle.word_space.proofs.Runs.{below_before, shown_same, used_handed, used_more, used_none, used_then, used_until}
 use Rattle.tree_index.specs.Shape.{keys_in}
-use Rattle.tree_index.specs.Tree.{FitsTree, IsTree}
-use Rattle.tatp_layout.proofs.Indexes.{with_tree}
+use Rattle.tree_index.specs.Tree.{FitsTree}
 use Rattle.tatp_core.specs.Located.{FindsUpTo, HandsOn}
 use Rattle.tatp_core.proofs.KeyRanges.{keys_rise, pair_of, range_empty}
-use Rattle.tatp_core.proofs.LocatedRows.{found_all, found_full, found_last, found_more, last_key, locates}
+use Rattle.tatp_core.proofs.LocatedRows.{found_all, found_full, found_last, found_more, keys_stand, last_key, locates}
 use Rattle.tatp_core.proofs.locate.locate_rows.Goals as goal
 
 hands_on : {T : Type 0} (r : Result T Stop) → HandsOn r (stop_of r)
@@ -57,17 +56,15 @@ returns-in_default-2-clause-most g c = omega (arith, c.loop.invariant.count, c.l
 
 pub returns-in_default-2-clause-located : goal.returns-in_default-2-clause-located
 returns-in_default-2-clause-located g c = λ array below db stands.
-    let tree_is = with_tree c.args.lay.now.index 0 0 (sym c.in-Some.ensures.tree) in
-    let has = stands.index tree_is.0 in
-    let lawful = subst (λ t. IsTree t (shown (g.W.Words.sight c.args.w.now) array) has.shape has.free_leaves has.free_inner) tree_is.2 has.lawful in
+    let has = keys_stand c.args.lay.now c.in-Some.tree stands (sym c.in-Some.ensures.tree) in
     let before = c.loop.invariant in
     let rises = keys_rise has.shape has.lawful in
     let step = c.in_ok-key.ensures in
     let next = subst (λ ws. FindsUpTo c.in-Some.tree c.loop.from (last_key c.args.high) ws None) (shown_same before.uses array)
     (subst (λ r. FindsUpTo c.in-Some.tree c.loop.from (last_key c.args.high) (shown (g.W.Words.sight c.loop.w) array) r) c.in_default-2.is (step.next array below))
-    has.shape has.free_leaves has.free_inner lawful in
+    has.shape has.free_leaves has.free_inner has.lawful in
     locates c.args.low c.args.high c.args.limit db.subscribers (keys_in has.shape) c.loop.found.items stands.in_order.subscribers_in_range rises has.same
-    (found_all (keys_in has.shape) before.from rises (before.found array (below_before step.uses below) has.shape has.free_leaves has.free_inner lawful) (last_key c.args.high) c.args.limit before.inside (omega (arith, before.count, c.loop.auto.counter-end)) next)
+    (found_all (keys_in has.shape) before.from rises (before.found array (below_before step.uses below) has.shape has.free_leaves has.free_inner has.lawful) (last_key c.args.high) c.args.limit before.inside (omega (arith, before.count, c.loop.auto.counter-end)) next)
 
 pub returns-then-is_err-clause-uses : goal.returns-then-is_err-clause-uses
 returns-then-is_err-clause-uses g c = record {
@@ -91,18 +88,16 @@ returns-then-key-last-clause-most g c = omega (arith, c.loop.invariant.count, c.
 
 pub returns-then-key-last-clause-located : goal.returns-then-key-last-clause-located
 returns-then-key-last-clause-located g c = λ array below db stands.
-    let tree_is = with_tree c.args.lay.now.index 0 0 (sym c.in-Some.ensures.tree) in
-    let has = stands.index tree_is.0 in
-    let lawful = subst (λ t. IsTree t (shown (g.W.Words.sight c.args.w.now) array) has.shape has.free_leaves has.free_inner) tree_is.2 has.lawful in
+    let has = keys_stand c.args.lay.now c.in-Some.tree stands (sym c.in-Some.ensures.tree) in
     let before = c.loop.invariant in
     let rises = keys_rise has.shape has.lawful in
     let step = c.in_ok-key.ensures in
     let next = subst (λ ws. FindsUpTo c.in-Some.tree c.loop.from (last_key c.args.high) ws (Some c.in-Some-2.key)) (shown_same before.uses array)
     (subst (λ r. FindsUpTo c.in-Some.tree c.loop.from (last_key c.args.high) (shown (g.W.Words.sight c.loop.w) array) r) c.in-Some-2.is (step.next array below))
-    has.shape has.free_leaves has.free_inner lawful in
+    has.shape has.free_leaves has.free_inner has.lawful in
     let items = pushed c.loop.found.items (pair_of c.in-Some-2.key) c.if-is_err.ensures.negation c.push.ensures.items in
     locates c.args.low c.args.high c.args.limit db.subscribers (keys_in has.shape) c.push.new.self.items stands.in_order.subscribers_in_range rises has.same
-    (items ∙ found_last (keys_in has.shape) before.from rises (before.found array (below_before step.uses below) has.shape has.free_leaves has.free_inner lawful) c.in-Some-2.key (last_key c.args.high) c.args.limit next c.if-key-last.true
+    (items ∙ found_last (keys_in has.shape) before.from rises (before.found array (below_before step.uses below) has.shape has.free_leaves has.free_inner has.lawful) c.in-Some-2.key (last_key c.args.high) c.args.limit next c.if-key-last.true
     (omega (arith, before.count, c.loop-test.true, length-append c.loop.found.items (pair_of c.in-Some-2.key ∷ []))))
 
 pub loop-preserved : goal.loop-preserved
@@ -134,10 +129,8 @@ returns-clause-most g c = omega (arith, c.loop.invariant.count, c.loop.auto.coun
 
 pub returns-clause-located : goal.returns-clause-located
 returns-clause-located g c = λ array below db stands.
-    let tree_is = with_tree c.args.lay.now.index 0 0 (sym c.in-Some.ensures.tree) in
-    let has = stands.index tree_is.0 in
-    let lawful = subst (λ t. IsTree t (shown (g.W.Words.sight c.args.w.now) array) has.shape has.free_leaves has.free_inner) tree_is.2 has.lawful in
+    let has = keys_stand c.args.lay.now c.in-Some.tree stands (sym c.in-Some.ensures.tree) in
     let before = c.loop.invariant in
     let rises = keys_rise has.shape has.lawful in
     locates c.args.low c.args.high c.args.limit db.subscribers (keys_in has.shape) c.loop.found.items stands.in_order.subscribers_in_range rises has.same
-    (found_full (keys_in has.shape) before.from rises (before.found array below has.shape has.free_leaves has.free_inner lawful) (last_key c.args.high) c.args.limit before.inside (omega (arith, before.count, c.loop.auto.counter-end, c.loop-test.false)))
+    (found_full (keys_in has.shape) before.from rises (before.found array below has.shape has.free_leaves has.free_inner has.lawful) (last_key c.args.high) c.args.limit before.inside (omega (arith, before.count, c.loop.auto.counter-end, c.loop-test.false)))
