@@ -1,6 +1,5 @@
 //! Why a file has no text.
 
-ghost use Rattle.dude_io.specs.declared.file_fault.FileFault.TheVariants.{Failed as FileFailed, NoMemory};
 ghost use Rattle.std.specs.Prelude.{◌≡◌};
 
 use pmem_trait::Failed;
@@ -16,7 +15,9 @@ pub enum FileFault {
 }
 
 impl From<Failed> for FileFault {
-    ghost from_gives = { λ _ fault. fault ≡ FileFailed };
+    ghost use Rattle.dude_io.specs.declared.file_fault.FileFault.TheVariants as why;
+
+    ghost from_gives = { λ _ fault. fault ≡ why.Failed };
 
     fn from(_: Failed) -> Self {
         FileFault::Failed
@@ -24,7 +25,9 @@ impl From<Failed> for FileFault {
 }
 
 impl From<AllocError> for FileFault {
-    ghost from_gives = { λ _ fault. fault ≡ NoMemory };
+    ghost use Rattle.dude_io.specs.declared.file_fault.FileFault.TheVariants as why;
+
+    ghost from_gives = { λ _ fault. fault ≡ why.NoMemory };
 
     fn from(_: AllocError) -> Self {
         FileFault::NoMemory

@@ -1,8 +1,5 @@
 //! Standard output; what it does with the bytes that it takes is seen by no contract (trusted).
 
-ghost use Rattle.dude_io.specs.Silent.{silent_sink};
-ghost use Rattle.std.specs.Prelude.{◌≡◌};
-
 use crate::Sink;
 use pmem_trait::{Failed, FaultCount};
 
@@ -14,14 +11,15 @@ pub struct RealSink<R: Print> {
 }
 
 impl<R: Print> RealSink<R> {
+    ghost use Rattle.dude_io.specs.Silent.{silent_sink};
+    ghost use Rattle.std.specs.Prelude.{◌≡◌};
+
     /// The output of this runtime, with no fault yet. Nothing is written.
     pub fn new(rt: R) -> RealSink<R>
         ensures { ⟦<RealSink<R> as Sink>⟧.sight result ≡ silent_sink 0 }
     {
-        RealSink {
-            rt,
-            faults: FaultCount::new(),
-        }
+        let faults = FaultCount::new();
+        RealSink { rt, faults }
     }
 }
 

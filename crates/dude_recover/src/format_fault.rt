@@ -1,5 +1,10 @@
 //! Why no image was made.
 
+ghost use Rattle.dude_recover.specs.Causes.{fault_of_population};
+ghost use Rattle.dude_recover.specs.Texts.{fault_words};
+ghost use Rattle.dude_recover.specs.declared.format_fault.FormatFault.TheVariants.{Size, Device};
+ghost use Rattle.std.specs.Prelude.{Some, ◌≡◌};
+
 use dude_base::field::Field;
 use dude_base::size_fault::SizeFault;
 use pmem_trait::Failed;
@@ -23,9 +28,6 @@ pub enum FormatFault {
 }
 
 impl fmt::Display for FormatFault {
-    ghost use Rattle.dude_recover.specs.Texts.{fault_words};
-    ghost use Rattle.std.specs.Prelude.{Some};
-
     ghost output = { λ fault. Some (fault_words fault) };
 
     fn fmt<W: fmt::Write>(&self, f: &mut fmt::Formatter<W>) -> fmt::Result {
@@ -46,9 +48,6 @@ impl fmt::Display for FormatFault {
 impl Error for FormatFault {}
 
 impl From<SizeFault> for FormatFault {
-    ghost use Rattle.dude_recover.specs.declared.format_fault.FormatFault.TheVariants.{Size};
-    ghost use Rattle.std.specs.Prelude.{◌≡◌};
-
     ghost from_gives = { λ fault own. own ≡ Size fault.field };
 
     fn from(fault: SizeFault) -> Self {
@@ -57,9 +56,6 @@ impl From<SizeFault> for FormatFault {
 }
 
 impl From<PopFault> for FormatFault {
-    ghost use Rattle.dude_recover.specs.Causes.{fault_of_population};
-    ghost use Rattle.std.specs.Prelude.{◌≡◌};
-
     ghost from_gives = { λ fault own. own ≡ fault_of_population fault };
 
     fn from(fault: PopFault) -> Self {
@@ -71,9 +67,6 @@ impl From<PopFault> for FormatFault {
 }
 
 impl From<Failed> for FormatFault {
-    ghost use Rattle.dude_recover.specs.declared.format_fault.FormatFault.TheVariants.{Device};
-    ghost use Rattle.std.specs.Prelude.{◌≡◌};
-
     ghost from_gives = { λ _ fault. fault ≡ Device };
 
     fn from(_failed: Failed) -> Self {

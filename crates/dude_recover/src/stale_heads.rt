@@ -32,14 +32,12 @@ fn add_stale(lines: &mut Vec<u64>, line: u64, number: u64, tag: u64)
     }
 }
 
+/// Lines of an image, or why they aren't known.
+pub type FoundLines = Result<Vec<u64>, OpenFault>;
+
 /// The lines of the cells that are heads with numbers over this one, in rising order. The medium is only read.
 #[tactic(auto, using(pmem_trait::proofs::ReadRuns::reading))]
-pub fn stale_lines<M: Medium>(
-    alloc: Global,
-    m: &mut M,
-    place: &Place,
-    number: u64,
-) -> Result<Vec<u64>, OpenFault>
+pub fn stale_lines<M: Medium>(alloc: Global, m: &mut M, place: &Place, number: u64) -> FoundLines
     requires room { image_words place.now ≤ (M.sight m.old).len }
     ensures len { (M.sight m.new).len ≡ (M.sight m.old).len }
     ensures reads { ReadsMade result (M.sight m.old) (M.sight m.new) }

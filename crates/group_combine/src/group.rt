@@ -94,15 +94,15 @@ impl Group {
     }
 }
 
-// Takes the writes of a record.
-fn take_record(r: &Bundle, out: &mut Group)
-    requires { length out.old.taken + length r.now.writes ≤ out.old.room }
-    ensures taken { out.new.taken ≡ out.old.taken ++ r.now.writes }
+/// Takes the writes of a record, behind the others.
+pub fn take_bundle(bundle: &Bundle, out: &mut Group)
+    requires { length out.old.taken + length bundle.now.writes ≤ out.old.room }
+    ensures taken { out.new.taken ≡ out.old.taken ++ bundle.now.writes }
     ensures room { out.new.room ≡ out.old.room }
-    ensures distinct { HasDistinctPlaces r.now.writes }
+    ensures distinct { HasDistinctPlaces bundle.now.writes }
 {
-    for k in 0..r.len() {
-        out.take(r.write_at(k));
+    for k in 0..bundle.len() {
+        out.take(bundle.write_at(k));
     }
 }
 
@@ -119,7 +119,7 @@ pub fn combine(list: &[Bundle], out: &mut Group)
 {
     out.clear();
     for r in list {
-        take_record(r, out);
+        take_bundle(r, out);
     }
     out.finish();
 }

@@ -4,4 +4,4 @@
 mod group;
 mod numbered;
 
-pub use group::{Group, combine};
+pub use group::{Group, combine, take_bundle};

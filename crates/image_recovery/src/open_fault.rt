@@ -1,5 +1,10 @@
 //! Why an image can't be opened.
 
+ghost use Rattle.image_recovery.specs.Faults.{fault_of_scan, fault_of_check};
+ghost use Rattle.image_recovery.specs.Texts.{fault_words};
+ghost use Rattle.image_recovery.specs.declared.open_fault.OpenFault.TheVariants.{Device, NoMemory};
+ghost use Rattle.std.specs.Prelude.{Some, ◌≡◌};
+
 use log_ring::ScanFault;
 use pmem_trait::Failed;
 use std::alloc::AllocError;
@@ -23,9 +28,6 @@ pub enum OpenFault {
 }
 
 impl fmt::Display for OpenFault {
-    ghost use Rattle.image_recovery.specs.Texts.{fault_words};
-    ghost use Rattle.std.specs.Prelude.{Some};
-
     ghost output = { λ fault. Some (fault_words fault) };
 
     fn fmt<W: fmt::Write>(&self, f: &mut fmt::Formatter<W>) -> fmt::Result {
@@ -41,32 +43,7 @@ impl fmt::Display for OpenFault {
 
 impl Error for OpenFault {}
 
-impl From<Failed> for OpenFault {
-    ghost use Rattle.image_recovery.specs.declared.open_fault.OpenFault.TheVariants.{Device};
-    ghost use Rattle.std.specs.Prelude.{◌≡◌};
-
-    ghost from_gives = { λ _ fault. fault ≡ Device };
-
-    fn from(_failed: Failed) -> Self {
-        OpenFault::Device
-    }
-}
-
-impl From<AllocError> for OpenFault {
-    ghost use Rattle.image_recovery.specs.declared.open_fault.OpenFault.TheVariants.{NoMemory};
-    ghost use Rattle.std.specs.Prelude.{◌≡◌};
-
-    ghost from_gives = { λ _ fault. fault ≡ NoMemory };
-
-    fn from(_refused: AllocError) -> Self {
-        OpenFault::NoMemory
-    }
-}
-
 impl From<ScanFault> for OpenFault {
-    ghost use Rattle.image_recovery.specs.Faults.{fault_of_scan};
-    ghost use Rattle.std.specs.Prelude.{◌≡◌};
-
     ghost from_gives = { λ fault own. own ≡ fault_of_scan fault };
 
     fn from(fault: ScanFault) -> Self {
@@ -78,16 +55,29 @@ impl From<ScanFault> for OpenFault {
     }
 }
 
-impl From<CheckFault> for OpenFault {
-    ghost use Rattle.image_recovery.specs.Faults.{fault_of_check};
-    ghost use Rattle.std.specs.Prelude.{◌≡◌};
+impl From<Failed> for OpenFault {
+    ghost from_gives = { λ _ fault. fault ≡ Device };
 
+    fn from(_failed: Failed) -> Self {
+        OpenFault::Device
+    }
+}
+
+impl From<CheckFault> for OpenFault {
     ghost from_gives = { λ fault own. own ≡ fault_of_check fault };
 
     fn from(fault: CheckFault) -> Self {
         match fault {
-            CheckFault::NotDb { word } => OpenFault::NotDb { word },
             CheckFault::NoMemory => OpenFault::NoMemory,
+            CheckFault::NotDb { word } => OpenFault::NotDb { word },
         }
+    }
+}
+
+impl From<AllocError> for OpenFault {
+    ghost from_gives = { λ _ fault. fault ≡ NoMemory };
+
+    fn from(_refused: AllocError) -> Self {
+        OpenFault::NoMemory
     }
 }

@@ -1,5 +1,7 @@
 //! Why a scan does not give what the rings hold.
 
+ghost use Rattle.std.specs.Prelude.{◌≡◌};
+
 use pmem_trait::Failed;
 use std::alloc::AllocError;
 
@@ -16,7 +18,6 @@ pub enum ScanFault {
 
 impl From<Failed> for ScanFault {
     ghost use Rattle.log_ring.specs.declared.scan_fault.ScanFault.TheVariants.{Device};
-    ghost use Rattle.std.specs.Prelude.{◌≡◌};
 
     ghost from_gives = { λ _ fault. fault ≡ Device };
 
@@ -27,7 +28,6 @@ impl From<Failed> for ScanFault {
 
 impl From<AllocError> for ScanFault {
     ghost use Rattle.log_ring.specs.declared.scan_fault.ScanFault.TheVariants.{NoMemory};
-    ghost use Rattle.std.specs.Prelude.{◌≡◌};
 
     ghost from_gives = { λ _ fault. fault ≡ NoMemory };
 

@@ -18,17 +18,15 @@ use pmem_trait::Medium;
 use redo_record::KIND;
 use std::alloc::Global;
 
+/// The heads that were found, or why none are given.
+pub type FoundHeads = Result<Vec<Head>, ScanFault>;
+
 /// Finds the heads of all rings with last numbers over `above`, in the order of their numbers, by the version of the image.
 ///
 /// The medium is only read. A head with a number over `above` that has no complete record is damage, and so is one whose
 /// first number isn't over it; where each is sound, so is a head of which a head at a lower line covers a number. The first
 /// line of such a head is answered. Their bundles are read by `read_bundle`, so that one at a time is in memory.
-pub fn heads<M: Medium>(
-    alloc: Global,
-    m: &mut M,
-    place: &Place,
-    above: u64,
-) -> Result<Vec<Head>, ScanFault>
+pub fn heads<M: Medium>(alloc: Global, m: &mut M, place: &Place, above: u64) -> FoundHeads
     requires room { image_words place.now ≤ (M.sight m.old).len }
     ensures len { (M.sight m.new).len ≡ (M.sight m.old).len }
     ensures reads { ReadsMade result (M.sight m.old) (M.sight m.new) }
@@ -50,7 +48,7 @@ fn scan_rings<M: Medium>(
     place: &Place,
     version: u64,
     above: u64,
-) -> Result<Vec<Head>, ScanFault>
+) -> FoundHeads
     requires room { image_words place.now ≤ (M.sight m.old).len }
     ensures len { (M.sight m.new).len ≡ (M.sight m.old).len }
     ensures reads { ReadsMade result (M.sight m.old) (M.sight m.new) }

@@ -9,6 +9,9 @@ use crate::replay::{image_after, last_told_by};
 use pmem_trait::{Call, Failed, Made, Medium};
 use std::alloc::{AllocError, Global};
 
+/// A new medium, where there is memory for it.
+pub type NewMedium = Result<MemPmem, AllocError>;
+
 /// Persistent memory in memory, with its whole history.
 #[derive(Drop)]
 pub struct MemPmem {
@@ -27,12 +30,7 @@ impl MemPmem {
 
     /// A medium that is settled at these words. Of its calls, counted from 1, those over `budget` fail and do nothing,
     /// and so do those whose count is in `fail`. It takes memory for `budget` calls here, and none later.
-    pub fn new(
-        alloc: Global,
-        words: Vec<u64>,
-        budget: u64,
-        fail: Vec<u64>,
-    ) -> Result<MemPmem, AllocError>
+    pub fn new(alloc: Global, words: Vec<u64>, budget: u64, fail: Vec<u64>) -> NewMedium
         requires { budget ≤ 10000000 }
         ensures { IfOk result (IsNewMedium words.items budget fail.items false) }
     {
@@ -41,25 +39,14 @@ impl MemPmem {
 
     /// A medium that is settled at these words, of which a call whose count is in `fail` has its whole effect before it
     /// fails. One over `budget` fails and does nothing.
-    pub fn late(
-        alloc: Global,
-        words: Vec<u64>,
-        budget: u64,
-        fail: Vec<u64>,
-    ) -> Result<MemPmem, AllocError>
+    pub fn late(alloc: Global, words: Vec<u64>, budget: u64, fail: Vec<u64>) -> NewMedium
         requires { budget ≤ 10000000 }
         ensures { IfOk result (IsNewMedium words.items budget fail.items true) }
     {
         MemPmem::start(alloc, words, budget, fail, true)
     }
 
-    fn start(
-        alloc: Global,
-        words: Vec<u64>,
-        budget: u64,
-        fail: Vec<u64>,
-        late: bool,
-    ) -> Result<MemPmem, AllocError>
+    fn start(alloc: Global, words: Vec<u64>, budget: u64, fail: Vec<u64>, late: bool) -> NewMedium
         requires { budget ≤ 10000000 }
         ensures { IfOk result (IsNewMedium words.items budget fail.items late) }
     {

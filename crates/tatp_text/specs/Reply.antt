@@ -23,10 +23,10 @@ found_text fields = codes "OK " ++ join_with_byte 44 fields
 
 -- `OK` with the fields of what a read found, or a word for what became of the request
 abbrev pub reply_text : Reply → List ℕ
+reply_text Changed = codes "OK"
 reply_text (Subscriber row) = found_text (row_fields row)
 reply_text (Destinations phones) = found_text (map phone_text (list_of phones))
 reply_text (Access info) = found_text (access_fields info)
-reply_text Changed = codes "OK"
 reply_text Missing = codes "NONE"
 reply_text NoFacility = codes "NOFAC"
 reply_text Duplicate = codes "DUP"

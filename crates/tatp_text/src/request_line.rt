@@ -67,11 +67,11 @@ fn push_fields(request: &Request, line: &mut Vec<u8>) -> Result<(), AllocError>
             sf_type,
             start_time,
             end_time,
-            numberx,
+            numberx: target,
         } => {
             push_phone_field(sub_nbr, line)?;
             push_numbers(&[sf_type, start_time, end_time], line)?;
-            push_phone_field(numberx, line)
+            push_phone_field(target, line)
         }
         Request::DeleteCall {
             sub_nbr,

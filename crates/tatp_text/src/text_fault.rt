@@ -1,5 +1,8 @@
 //! Why a request file was not read.
 
+ghost use Rattle.std.specs.Prelude.{◌≡◌};
+ghost use Rattle.tatp_text.specs.declared.text_fault.TextFault.TheVariants.{NoMemory};
+
 use std::alloc::{AllocError, AllocFailed};
 
 /// Why a request file was not read.
@@ -13,9 +16,6 @@ pub enum TextFault {
 }
 
 impl From<AllocError> for TextFault {
-    ghost use Rattle.std.specs.Prelude.{◌≡◌};
-    ghost use Rattle.tatp_text.specs.declared.text_fault.TextFault.TheVariants.{NoMemory};
-
     ghost from_gives = { λ _ fault. fault ≡ NoMemory };
 
     fn from(_: AllocError) -> TextFault {
@@ -24,9 +24,6 @@ impl From<AllocError> for TextFault {
 }
 
 impl<T: Drop> From<AllocFailed<T>> for TextFault {
-    ghost use Rattle.std.specs.Prelude.{◌≡◌};
-    ghost use Rattle.tatp_text.specs.declared.text_fault.TextFault.TheVariants.{NoMemory};
-
     ghost from_gives = { λ _ fault. fault ≡ NoMemory };
 
     fn from(_: AllocFailed<T>) -> TextFault {

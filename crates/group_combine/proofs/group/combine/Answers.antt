@@ -12,13 +12,13 @@ use Rattle.group_combine.proofs.Effects.{overwritten-last, written_by_records}
 use Rattle.group_combine.proofs.LastWrites.{last_of-records, writes_more}
 use Rattle.group_combine.proofs.group.combine.Goals as goal
 
-next : (c : goal.After-take_record-arg-1) → take (c.loop-r.r-index + 1) c.args.list.now ≡ take c.loop-r.r-index c.args.list.now ++ c.r-item.result ∷ []
+next : (c : goal.After-take_bundle-arg-1) → take (c.loop-r.r-index + 1) c.args.list.now ≡ take c.loop-r.r-index c.args.list.now ++ c.r-item.result ∷ []
 next c =
     let list : List RedoBundle = c.args.list.now in
     take_more list c.loop-r.r-index c.r-item.result c.loop-r-test.true ∙ ap (λ r. take c.loop-r.r-index list ++ r ∷ []) (sym c.r-item.is)
 
-pub take_record-requires : goal.take_record-requires
-take_record-requires c =
+pub take_bundle-requires : goal.take_bundle-requires
+take_bundle-requires c =
     let f : RedoBundle → ℕ = λ r. length r.writes in
     let list : List RedoBundle = c.args.list.now in
     let more : sum_by f (take (c.loop-r.r-index + 1) list) ≡ sum_by f (take c.loop-r.r-index list) + length c.r-item.result.writes =
@@ -32,11 +32,11 @@ loop-r-preserved c =
     let list : List RedoBundle = c.args.list.now in
     let inv = c.loop-r.invariant in
     record {
-      taken = c.take_record.ensures.taken ∙ ap (λ (l : List Write). l ++ c.r-item.result.writes) inv.taken ∙ writes_more (take c.loop-r.r-index list) c.r-item.result
+      taken = c.take_bundle.ensures.taken ∙ ap (λ (l : List Write). l ++ c.r-item.result.writes) inv.taken ∙ writes_more (take c.loop-r.r-index list) c.r-item.result
           ∙ ap (λ (rs : List RedoBundle). flat_map (λ (r : RedoBundle). r.writes) rs) (sym (next c.before));
-      room = c.take_record.ensures.room ∙ inv.room;
+      room = c.take_bundle.ensures.room ∙ inv.room;
       distinct = All-more (λ (r : RedoBundle). HasDistinctPlaces r.writes) list c.loop-r.r-index c.r-item.result c.loop-r-test.true inv.distinct
-          (subst (λ (r : RedoBundle). HasDistinctPlaces r.writes) c.r-item.is c.take_record.ensures.distinct);
+          (subst (λ (r : RedoBundle). HasDistinctPlaces r.writes) c.r-item.is c.take_bundle.ensures.distinct);
     }
 
 -- all were taken

@@ -3,18 +3,18 @@ use Rattle.std.proofs.lemmas.List.{take_all, take_more}
 use Rattle.std.proofs.lemmas.Option.{get_or_from_slice_get}
 use Rattle.dude_base.specs.declared.write.Write.{Write}
 use Rattle.group_combine.specs.Group.{GroupState}
-use Rattle.group_combine.proofs.group.take_record.Goals as goal
+use Rattle.group_combine.proofs.group.take_bundle.Goals as goal
 
 pub take-requires : goal.take-requires
 take-requires c =
     let inv = c.loop-k.invariant in
     let long : length c.loop-k.out.taken ≡ length c.args.out.now.taken + c.loop-k.k =
-    ap (λ (l : List Write). length l) inv.taken ∙ length-append c.args.out.now.taken (take c.loop-k.k c.args.r.now.writes) ∙ ap (λ n. length c.args.out.now.taken + n) (length-take-le c.loop-k.k c.args.r.now.writes (omega arith)) in
+    ap (λ (l : List Write). length l) inv.taken ∙ length-append c.args.out.now.taken (take c.loop-k.k c.args.bundle.now.writes) ∙ ap (λ n. length c.args.out.now.taken + n) (length-take-le c.loop-k.k c.args.bundle.now.writes (omega arith)) in
     omega (arith, inv.room, c.requires)
 
 pub loop-k-preserved : goal.loop-k-preserved
 loop-k-preserved c =
-    let ws : List Write = c.args.r.now.writes in
+    let ws : List Write = c.args.bundle.now.writes in
     let w : Write = c.write_at.result in
     let k : ℕ = c.loop-k.k in
     let old : List Write = c.args.out.now.taken in
@@ -26,4 +26,4 @@ loop-k-preserved c =
     }
 
 pub returns-clause-taken : goal.returns-clause-taken
-returns-clause-taken c = c.loop-k.invariant.taken ∙ ap (λ (l : List Write). c.args.out.now.taken ++ l) (take_all c.loop-k.k c.args.r.now.writes (omega arith))
+returns-clause-taken c = c.loop-k.invariant.taken ∙ ap (λ (l : List Write). c.args.out.now.taken ++ l) (take_all c.loop-k.k c.args.bundle.now.writes (omega arith))
