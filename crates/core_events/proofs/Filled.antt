@@ -1,5 +1,5 @@
 -- Filled words, and the numbers of entries and pins.
-use Rattle.std.proofs.Common.{◌≡◌, ◌≢◌, ℕ, zero, suc, ◌<◌, ◌≤◌, ◌⊎◌, List, [], ◌∷◌, map, refl, sym, ap, ◌∙◌, inl, inr, ⊎_elim, eq-eqb, ne_eqb, arith}
+use Rattle.std.proofs.Common.{◌≡◌, ◌≢◌, ℕ, zero, suc, ◌+◌, ◌<◌, ◌≤◌, ◌⊎◌, List, [], ◌∷◌, map, refl, sym, ap, ◌∙◌, inl, inr, ⊎_elim, eq-eqb, ne_eqb, arith}
 use Rattle.std.specs.Prelude.{Option, Some, None}
 use mathlib.Core.Option.{some, some-injective, some-ne-none}
 use mathlib.Core.Logic.{dite}
@@ -63,6 +63,14 @@ pub counts_one : {A : Type 0} (f : A → ℕ) (l : List A) (j : ℕ) (a : A) →
 counts_one f [] j a e = absurd (some-ne-none a (sym e))
 counts_one f (x ∷ xs) zero a e = let s : f x ≡ f a = ap f (some-injective x a e) in omega arith
 counts_one f (x ∷ xs) (suc j) a e = let r = counts_one f xs j a e in omega arith
+
+-- two places of a list count together
+pub counts_two : {A : Type 0} (f : A → ℕ) (l : List A) (i j : ℕ) (a b : A) → get_elem? l i ≡ some a → get_elem? l j ≡ some b → i ≢ j → f a + f b ≤ total f l
+counts_two f [] i j a b e h o = absurd (some-ne-none a (sym e))
+counts_two f (x ∷ xs) zero zero a b e h o = absurd (o refl)
+counts_two f (x ∷ xs) zero (suc j) a b e h o = let s : f x ≡ f a = ap f (some-injective x a e) in let one = counts_one f xs j b h in omega arith
+counts_two f (x ∷ xs) (suc i) zero a b e h o = let s : f x ≡ f b = ap f (some-injective x b h) in let one = counts_one f xs i a e in omega arith
+counts_two f (x ∷ xs) (suc i) (suc j) a b e h o = let two = counts_two f xs i j a b e h (λ y. o (ap suc y)) in omega arith
 
 pub counts_none : {A : Type 0} (f : A → ℕ) (l : List A) → ((j : ℕ) (a : A) → get_elem? l j ≡ some a → f a ≡ 0) → total f l ≡ 0
 counts_none f [] h = refl

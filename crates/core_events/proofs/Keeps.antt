@@ -10,8 +10,8 @@ use Rattle.core_events.specs.Entries.{all_entries, IsLegal}
 use Rattle.core_events.specs.Events.{Event, number, finish, decide, name, view_after}
 use Rattle.core_events.specs.Conditions.{IsAllowed, after}
 use Rattle.core_events.specs.Partings.{newcomer, left_of, both_of, spent, MaySplit, MayJoin, split, join, Step, event, parting, joining, Leads, AllLead, entries_made, all_made}
-use Rattle.core_events.specs.Ghosts.{ghost_after, ghost_joined}
-use Rattle.core_events.specs.Kept.{Kept}
+use Rattle.core_events.specs.Ghosts.{Ghost, ghost_after, ghost_joined}
+use Rattle.core_events.specs.Kept.{LayersKept, Kept}
 use Rattle.core_events.proofs.Lists.{set_else}
 use Rattle.core_events.proofs.ThreadsKept.{threads_keep, threads_split_keep, threads_join_keep}
 use Rattle.core_events.proofs.LocksKept.{locks_keep, locks_split_keep, locks_join_keep}
@@ -24,19 +24,46 @@ use Rattle.core_events.proofs.ValuesKept.{values_keep, values_split_keep, values
 use Rattle.core_events.proofs.EntriesAll.{all_legal}
 
 module _ (z : Setup) where
+  -- ---- the layers that say nothing of values
+  pub layers_keep : (e : Event) (c : State) (who : ℕ) (v : View) (g : Ghost) → LayersKept z g c → IsAllowed z c who e v → LayersKept z (ghost_after z g c who v e) (after z c who v e)
+  layers_keep e c who v g l a = record {
+    threads = threads_keep z e c who v g l.threads a;
+    locks = locks_keep z e c who v g l.threads l.locks a;
+    entries = entries_keep z e c who v g l.threads l.locks l.entries a;
+    numbers = numbers_keep z e c who v g l.threads l.locks l.turn l.numbers a;
+    turn = turn_keep z e c who v g l.threads l.locks l.turn a;
+    pages = pages_keep z e c who v g l.threads l.locks l.turn l.pages a;
+    order = order_keep z e c who v g l.threads l.locks l.turn l.numbers l.order a;
+  }
+
+  pub layers_split_keep : (c : State) (who draws : ℕ) (v : View) (g : Ghost) → LayersKept z g c → MaySplit c who v draws → LayersKept z g (split z c who v draws)
+  layers_split_keep c who draws v g l a = record {
+    threads = threads_split_keep z c who draws v g l.threads a;
+    locks = locks_split_keep z c who draws v g l.locks a;
+    entries = entries_split_keep z c who draws v g l.entries a;
+    numbers = numbers_split_keep z c who draws v g l.numbers a;
+    turn = turn_split_keep z c who draws v g l.threads l.turn a;
+    pages = pages_split_keep z c who draws v g l.pages a;
+    order = order_split_keep z c who draws v g l.order a;
+  }
+
+  pub layers_join_keep : (c : State) (who other : ℕ) (v w : View) (g : Ghost) → LayersKept z g c → MayJoin c who v other w → LayersKept z (ghost_joined g who other) (join z c who v other w)
+  layers_join_keep c who other v w g l a = record {
+    threads = threads_join_keep z c who other v w g l.threads a;
+    locks = locks_join_keep z c who other v w g l.locks a;
+    entries = entries_join_keep z c who other v w g l.entries a;
+    numbers = numbers_join_keep z c who other v w g l.numbers a;
+    turn = turn_join_keep z c who other v w g l.threads l.turn a;
+    pages = pages_join_keep z c who other v w g l.pages a;
+    order = order_join_keep z c who other v w g l.order a;
+  }
+
+  -- ---- all layers
   pub event_keeps : (e : Event) (c : State) (who : ℕ) (v : View) → Kept z c → IsAllowed z c who e v → Kept z (after z c who v e)
   event_keeps e c who v k a =
       let g = k.ghost_is in let l = k.layers in record {
         ghost_is = ghost_after z g c who v e;
-        layers = record {
-          threads = threads_keep z e c who v g l.threads a;
-          locks = locks_keep z e c who v g l.threads l.locks a;
-          entries = entries_keep z e c who v g l.threads l.locks l.entries a;
-          numbers = numbers_keep z e c who v g l.threads l.locks l.turn l.numbers a;
-          turn = turn_keep z e c who v g l.threads l.locks l.turn a;
-          pages = pages_keep z e c who v g l.threads l.locks l.turn l.pages a;
-          order = order_keep z e c who v g l.threads l.locks l.turn l.numbers l.order a;
-        };
+        layers = layers_keep e c who v g l a;
         values = λ told. values_keep z e c who v g l.threads l.locks l.entries l.numbers l.turn l.pages told a (k.values told);
       }
 
@@ -44,15 +71,7 @@ module _ (z : Setup) where
   split_keeps c who draws v k a =
       let g = k.ghost_is in let l = k.layers in record {
         ghost_is = g;
-        layers = record {
-          threads = threads_split_keep z c who draws v g l.threads a;
-          locks = locks_split_keep z c who draws v g l.locks a;
-          entries = entries_split_keep z c who draws v g l.entries a;
-          numbers = numbers_split_keep z c who draws v g l.numbers a;
-          turn = turn_split_keep z c who draws v g l.threads l.turn a;
-          pages = pages_split_keep z c who draws v g l.pages a;
-          order = order_split_keep z c who draws v g l.order a;
-        };
+        layers = layers_split_keep c who draws v g l a;
         values = λ told. values_split_keep z c who draws v g (k.values told) a;
       }
 
@@ -60,15 +79,7 @@ module _ (z : Setup) where
   join_keeps c who other v w k a =
       let g = k.ghost_is in let l = k.layers in record {
         ghost_is = ghost_joined g who other;
-        layers = record {
-          threads = threads_join_keep z c who other v w g l.threads a;
-          locks = locks_join_keep z c who other v w g l.locks a;
-          entries = entries_join_keep z c who other v w g l.entries a;
-          numbers = numbers_join_keep z c who other v w g l.numbers a;
-          turn = turn_join_keep z c who other v w g l.threads l.turn a;
-          pages = pages_join_keep z c who other v w g l.pages a;
-          order = order_join_keep z c who other v w g l.order a;
-        };
+        layers = layers_join_keep c who other v w g l a;
         values = λ told. values_join_keep z c who other v w g l.locks (k.values told) a;
       }
 

@@ -1,32 +1,46 @@
 -- The worked transaction is allowed, step by step.
-use Rattle.std.proofs.Common.{◌≡◌, ℕ, zero, suc, ◌*◌, ◌/◌, ◌%◌, ◌<◌, ◌≤◌, true, false, [], ◌∷◌, get_or, refl, sym, subst, inl, inr, eq-eqb, ne_eqb, arith, All}
+use Rattle.std.proofs.Common.{◌≡◌, ℕ, ◌*◌, ◌<◌, ◌≤◌, true, false, [], ◌∷◌, get_or, refl, sym, subst, inl, inr, eq-eqb, ne_eqb, arith, All}
 use Rattle.std.specs.Prelude.{Some, None}
 use Rattle.std.proofs.lemmas.Bool.{true≢false}
 use mathlib.Core.Logic.{dite}
 use native.Mathlib.Decide.{ℕ_discrete}
 use Rattle.dude_base.specs.declared.limits.TheConstants.{PAGE}
+use Rattle.dude_base.specs.declared.write.Write.{Write}
 use Rattle.dude_base.specs.Writes.{written}
-use Rattle.core_events.specs.Setups.{IsSetup, lock_of}
-use Rattle.core_events.specs.Keyed.{find, has}
+use Rattle.core_events.specs.Setups.{Setup, IsSetup, lock_of, page_of}
+use Rattle.core_events.specs.Keyed.{has}
 use Rattle.core_events.specs.Views.{View}
 use Rattle.core_events.specs.Words.{State}
 use Rattle.core_events.specs.Entries.{all_entries}
 use Rattle.core_events.specs.Events.{Event, number, see_box, begin, entry, pin, look, load, check, take, draw, decide, store, touch, release, unpin, post, take_turn, see_full, empty_box, raise_durable, raise_reproduced, give_turn, no_about}
-use Rattle.core_events.specs.Conditions.{IsAllowed, after}
+use Rattle.core_events.specs.Conditions.{IsSteady, Owns, Pins, MayDraw, IsAllowed, after}
 use Rattle.core_events.specs.Partings.{newcomer, AllLead, start}
 use Rattle.core_events.specs.OneCommit.{smallest, one_write, commit_steps, commit_entry}
+use Rattle.core_events.proofs.Lists.{all_one}
 
 -- the write is of the word 3 alone
-only_three : (P : ℕ → Type 0) → P 3 → (i x : ℕ) → written one_write i ≡ Some x → P i
+pub only_three : (P : ℕ → Type 0) → P 3 → (i x : ℕ) → written one_write i ≡ Some x → P i
 only_three P h i x e = dite (ℕ_discrete 3 i) (λ same. subst P same h) (λ other. absurd (let r : None ≡ Some x = rw (ne_eqb 3 i other) at e in cc))
 
-one_inside : All (λ w. w.at < 1 * PAGE) one_write
-one_inside zero d lt = omega arith
-one_inside (suc j) d lt = absurd (omega arith)
+-- it is inside of any words that have that one
+pub one_inside : (words : ℕ) → 3 < words → All (λ w. w.at < words) one_write
+one_inside words lt = all_one (λ (w : Write). w.at < words) (record { at = 3; value = 7 }) lt
+
+-- a transaction that owns the lock of the word 3 and pins its page may draw the write
+pub may_draw_one : (z : Setup) (v : View) → IsSteady v.tx → 3 < z.pages * PAGE → Owns v (lock_of z 3) → Pins v (page_of 3) → v.box.is_empty ≡ true → 0 < v.draws → MayDraw z one_write v
+may_draw_one z v steady inside owned pinned box left = record {
+  steady = steady;
+  some_write = omega arith;
+  list = record { few = omega arith; distinct = λ i j d a b. absurd (omega arith) };
+  inside = one_inside (z.pages * PAGE) inside;
+  owned = only_three (λ i. Owns v (lock_of z i)) owned;
+  pinned = only_three (λ i. Pins v (page_of i)) pinned;
+  box = box;
+  draw_left = left;
+}
 
 one_checked : All (λ (r : ℕ × ℕ). has (0 ∷ []) (lock_of smallest r.0) ≡ true) ((3, 0) ∷ [])
-one_checked zero d lt = refl
-one_checked (suc j) d lt = absurd (omega arith)
+one_checked = all_one (λ (r : ℕ × ℕ). has (0 ∷ []) (lock_of smallest r.0) ≡ true) (3, 0) refl
 
 only_one : (n : ℕ) → 0 < n → n ≤ 1 → has (1 ∷ []) n ≡ true
 only_one n lt le = let e : 1 ≡ n = omega arith in rw (eq-eqb 1 n e) refl
@@ -110,25 +124,7 @@ abbrev s10 : State
 s10 = next s9 (draw no_about one_write)
 
 a9 : IsAllowed smallest s9 0 (draw no_about one_write) (view_in s9)
-a9 = record {
-  is_there = refl;
-  may = record {
-    live = refl;
-    threaded = (0, refl);
-    named = tt;
-    can = record {
-      steady = record { undrawn = record { is_open = refl; no_number = refl }; no_extension = refl };
-      some_write = omega arith;
-      list = record { few = omega arith; distinct = λ i j d a b. absurd (omega arith) };
-      inside = one_inside;
-      owned = λ i x e. only_three (λ j. (n : ℕ) × (find ((0, 0) ∷ []) (j % 1) ≡ Some n)) (0, refl) i x e;
-      pinned = λ i x e. only_three (λ j. (n : ℕ) × (find ((0, 0) ∷ []) (j / PAGE) ≡ Some n)) (0, refl) i x e;
-      box = refl;
-      draw_left = omega arith;
-    };
-  };
-  fits = tt;
-}
+a9 = record { is_there = refl; may = record { live = refl; threaded = (0, refl); named = tt; can = may_draw_one smallest (view_in s9) (record { undrawn = record { is_open = refl; no_number = refl }; no_extension = refl }) (omega arith) (0, refl) (0, refl) refl (omega arith) }; fits = tt }
 
 abbrev s11 : State
 s11 = next s10 (check 0)

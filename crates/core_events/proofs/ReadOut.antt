@@ -22,7 +22,7 @@ use Rattle.core_events.specs.Kept.{LayersKept, Kept}
 use Rattle.core_events.specs.Telling.{HasAll, IsReadOut}
 use Rattle.core_events.proofs.Lists.{at_map, of_map}
 use Rattle.core_events.proofs.Threads.{not_true}
-use Rattle.core_events.proofs.Filled.{counts_one, one_at}
+use Rattle.core_events.proofs.Filled.{counts_one, counts_two, one_at}
 use Rattle.core_events.proofs.NumbersKept.{has_at}
 use Rattle.core_events.proofs.EntriesAll.{writes_are, all_legal, all_numbered}
 
@@ -33,13 +33,6 @@ count_of p = held_of p + (waiting_of p + splits_of p)
 total_count : (ps : List Part) → total count_of ps ≡ total held_of ps + (total waiting_of ps + total splits_of ps)
 total_count [] = refl
 total_count (p ∷ ps) = let h = total_count ps in omega arith
-
-two_count : (ps : List Part) (i j : ℕ) (p q : Part) → get_elem? ps i ≡ some p → get_elem? ps j ≡ some q → i ≢ j → count_of p + count_of q ≤ total count_of ps
-two_count [] i j p q e f o = absurd (some-ne-none p (sym e))
-two_count (x ∷ xs) zero zero p q e f o = absurd (o refl)
-two_count (x ∷ xs) zero (suc j) p q e f o = let s : count_of x ≡ count_of p = ap count_of (some-injective x p e) in let h = counts_one count_of xs j q f in omega arith
-two_count (x ∷ xs) (suc i) zero p q e f o = let s : count_of x ≡ count_of q = ap count_of (some-injective x q f) in let h = counts_one count_of xs i p e in omega arith
-two_count (x ∷ xs) (suc i) (suc j) p q e f o = let h = two_count xs i j p q e f (λ y. o (ap suc y)) in omega arith
 
 -- a part that counts nothing is of a spent view
 spent_if : (b : Bool) (p : Part) → p.is_spent ≡ b → count_of p ≤ 0 → p.is_spent ≡ true
@@ -70,7 +63,7 @@ module _ (z : Setup) (c : State) (k : Kept z c) (id : ℕ) (v : View) (at : get_
   alone_counts : (j : ℕ) (w : View) → get_elem? c.views j ≡ some w → j ≢ id → count_of w.part ≤ 0
   alone_counts j w e o =
       let ps = map part_of c.views in
-      let two = two_count ps id j v.part w.part (at_map part_of c.views id v at) (at_map part_of c.views j w e) (λ y. o (sym y)) in
+      let two = counts_two count_of ps id j v.part w.part (at_map part_of c.views id v at) (at_map part_of c.views j w e) (λ y. o (sym y)) in
       let sum = total_count ps in let a = l.threads.held in let b = l.threads.counted in omega arith
 
   others_empty : (j : ℕ) (w : View) → get_elem? c.views j ≡ some w → j ≢ id → w.entries ≡ []

@@ -64,13 +64,13 @@ pub lock_moves : (z : Setup) (id clock : ℕ) (q : Claims) (lock2 : ℕ → Hold
 lock_moves z id clock q lock2 up writing_on taken_on taken_back owner_on owner_back = record {
   clock_up = omega arith;
   version_up = up;
+  changed = λ i. inl (λ n le. refl);
+  silent = λ n i le e. (refl, e);
   writing_on = writing_on;
   taken_on = taken_on;
   taken_back = taken_back;
   owner_on = owner_on;
   owner_back = owner_back;
-  changed = λ i. inl (λ n le. refl);
-  silent = λ n i le e. (refl, e);
   others = λ n le o. (refl, refl, refl);
   who_past = λ n le. refl;
   firm = λ n le e. (e, refl);

@@ -1,17 +1,14 @@
 -- The worked durable transaction is allowed, step by step.
-use Rattle.std.proofs.Common.{◌≡◌, ℕ, zero, suc, ◌*◌, ◌/◌, ◌%◌, ◌<◌, ◌≤◌, ◌+◌, true, false, List, [], ◌∷◌, ◌++◌, get_or, length, refl, sym, ap, ◌∙◌, subst, inl, inr, ⊎_elim, ne_eqb, arith, All, append_assoc}
-use Rattle.std.specs.Prelude.{Some, None}
+use Rattle.std.proofs.Common.{◌≡◌, ℕ, zero, suc, ◌*◌, ◌<◌, ◌≤◌, ◌+◌, true, false, List, [], ◌∷◌, ◌++◌, get_or, length, refl, sym, ap, ◌∙◌, subst, inl, inr, ⊎_elim, arith, All, append_assoc}
+use Rattle.std.specs.Prelude.{Some}
 use Rattle.std.specs.List.{Contains}
 use Rattle.std.proofs.lemmas.Bool.{true≢false}
 use mathlib.Core.Option.{some}
-use mathlib.Core.Logic.{dite}
 use lib.ListN.{get_elem?}
-use native.Mathlib.Decide.{ℕ_discrete}
 use Rattle.dude_base.specs.declared.limits.TheConstants.{PAGE}
 use Rattle.dude_base.specs.Image.{cell_at}
 use Rattle.dude_base.specs.Records.{RedoRecord, first_of}
 use Rattle.dude_base.specs.Sizes.{IsAccepted}
-use Rattle.dude_base.specs.Writes.{written}
 use Rattle.pmem_trait.specs.declared.call.Call.{Call}
 use Rattle.pmem_trait.specs.Groups.{group_calls}
 use Rattle.pmem_trait.specs.Words.{IsIn, after_all}
@@ -19,7 +16,7 @@ use Rattle.redo_record.specs.Calls.{append_calls}
 use Rattle.redo_record.specs.BackCalls.{announce_calls, reproduce_calls, read_page_calls}
 use Rattle.redo_record.specs.Waiting.{Waiting, Waits, Lead, IsContiguousEnd}
 use Rattle.core_events.specs.Setups.{IsSetup, lock_of}
-use Rattle.core_events.specs.Keyed.{find, has}
+use Rattle.core_events.specs.Keyed.{has}
 use Rattle.core_events.specs.Views.{View}
 use Rattle.core_events.specs.Words.{State}
 use Rattle.core_events.specs.Events.{Event, number, see_box, begin, entry, pin, look, load, check, take, draw, decide, store, touch, release, unpin, post, take_turn, empty_box, raise_durable, raise_reproduced, evict, load_touch, fill, give_turn, no_about}
@@ -27,6 +24,7 @@ use Rattle.core_events.specs.Partings.{newcomer}
 use Rattle.core_events.specs.Conditions.{HasThread, IsFree}
 use Rattle.core_events.proofs.Lists.{all_one}
 use Rattle.core_events.specs.OneCommit.{one_write}
+use Rattle.core_events.proofs.OneCommit.{only_three, one_inside, may_draw_one, smallest_ok}
 use Rattle.core_medium.specs.Stores.{Store}
 use Rattle.core_medium.specs.BackCalls.{BackCall, persisting, announcing, reproducing, reading, MayPersist, MayReproduce, MayCall, calls_of, left_by, store_behind, waiting_as}
 use Rattle.core_medium.specs.Machines.{Machine, MachineStep, AllMachineLead, IsMet, machine_after}
@@ -40,17 +38,8 @@ use Rattle.core_medium.proofs.PageReads.{whole_page_read}
 use Rattle.core_medium.proofs.Start.{machine_start}
 use Rattle.core_medium.proofs.WholeCalls.{whole_leads}
 
--- the write is of the word 3 alone
-only_three : (P : ℕ → Type 0) → P 3 → (i x : ℕ) → written one_write i ≡ Some x → P i
-only_three P h i x e = dite (ℕ_discrete 3 i) (λ same. subst P same h) (λ other. absurd (let r : None ≡ Some x = rw (ne_eqb 3 i other) at e in cc))
-
-one_inside : All (λ w. w.at < 3 * PAGE) one_write
-one_inside zero d lt = omega arith
-one_inside (suc j) d lt = absurd (omega arith)
-
 one_checked : All (λ (r : ℕ × ℕ). has (0 ∷ []) (lock_of small_setup r.0) ≡ true) ((3, 0) ∷ [])
-one_checked zero d lt = refl
-one_checked (suc j) d lt = absurd (omega arith)
+one_checked = all_one (λ (r : ℕ × ℕ). has (0 ∷ []) (lock_of small_setup r.0) ≡ true) (3, 0) refl
 
 pub small_accepted : IsAccepted small_sizes
 small_accepted = record {
@@ -66,16 +55,13 @@ pub small_places : HasPlaces small_setup small_sizes
 small_places = record { rings = omega arith; pages = refl }
 
 pub small_ok : IsSetup small_setup
-small_ok = record {
-  threads = record { low = omega arith; high = omega arith };
-  run = record {
-    frames = record { low = omega arith; high = omega arith };
-    locks = record { low = omega arith; high = omega arith };
-    boxes = record { low = omega arith; high = omega arith };
-  };
-  words = refl;
-  number = omega arith;
-}
+small_ok =
+    let few = smallest_ok in record {
+      threads = few.threads;
+      run = record { frames = record { low = omega arith; high = omega arith }; locks = few.run.locks; boxes = few.run.boxes };
+      words = refl;
+      number = few.number;
+    }
 
 abbrev view_in : State → View
 view_in c = get_or c.views 0 (newcomer small_setup 0 0)
@@ -199,25 +185,7 @@ abbrev m10 : Machine
 m10 = next m9 (draw no_about one_write)
 
 a9 : IsMet small_setup m9 0 (draw no_about one_write) (view_in m9.core)
-a9 = record {
-  is_there = refl;
-  may = record {
-    live = refl;
-    threaded = (0, refl);
-    named = tt;
-    can = record {
-      steady = record { undrawn = record { is_open = refl; no_number = refl }; no_extension = refl };
-      some_write = omega arith;
-      list = record { few = omega arith; distinct = λ i j d a b. absurd (omega arith) };
-      inside = one_inside;
-      owned = λ i x e. only_three (λ j. (n : ℕ) × (find ((0, 0) ∷ []) (j % 1) ≡ Some n)) (0, refl) i x e;
-      pinned = λ i x e. only_three (λ j. (n : ℕ) × (find ((0, 0) ∷ []) (j / PAGE) ≡ Some n)) (0, refl) i x e;
-      box = refl;
-      draw_left = omega arith;
-    };
-  };
-  meets = tt;
-}
+a9 = record { is_there = refl; may = record { live = refl; threaded = (0, refl); named = tt; can = may_draw_one small_setup (view_in m9.core) (record { undrawn = record { is_open = refl; no_number = refl }; no_extension = refl }) (omega arith) (0, refl) (0, refl) refl (omega arith) }; meets = tt }
 
 abbrev m11 : Machine
 m11 = next m10 (check 0)
@@ -342,7 +310,7 @@ may_reproduce = record {
   some = omega arith;
   durable = (1, told_one, omega arith);
   rising = λ i j d a b. absurd (omega arith);
-  inside = one_inside;
+  inside = one_inside (3 * PAGE) (omega arith);
   effect = λ array long. refl;
 }
 
@@ -361,17 +329,17 @@ a23 = record { is_there = refl; may = record { live = refl; threaded = (0, refl)
 abbrev m25 : Machine
 m25 = next m24 (entry 0)
 
-a24 : IsMet small_setup m24 0 (entry 0) (view_in m24.core)
-a24 = record { is_there = refl; may = record { live = refl; threaded = (0, refl); named = omega arith; can = inr refl }; meets = tt }
-
 abbrev m26 : Machine
 m26 = next m25 (evict 0)
 
-a25 : IsMet small_setup m25 0 (evict 0) (view_in m25.core)
-a25 = record { is_there = refl; may = record { live = refl; threaded = (0, refl); named = omega arith; can = (refl, (65_536, refl, omega arith)) }; meets = tt }
-
 abbrev m27 : Machine
 m27 = next m26 (load_touch 0)
+
+a24 : IsMet small_setup m24 0 (entry 0) (view_in m24.core)
+a24 = record { is_there = refl; may = record { live = refl; threaded = (0, refl); named = omega arith; can = inr refl }; meets = tt }
+
+a25 : IsMet small_setup m25 0 (evict 0) (view_in m25.core)
+a25 = record { is_there = refl; may = record { live = refl; threaded = (0, refl); named = omega arith; can = (refl, (65_536, refl, omega arith)) }; meets = tt }
 
 a26 : IsMet small_setup m26 0 (load_touch 0) (view_in m26.core)
 a26 = record { is_there = refl; may = record { live = refl; threaded = (0, refl); named = omega arith; can = (refl, refl) }; meets = tt }

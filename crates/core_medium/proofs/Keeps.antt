@@ -20,13 +20,7 @@ use Rattle.core_events.specs.Kept.{LayersKept}
 use Rattle.core_events.proofs.Lists.{at_map, of_map}
 use Rattle.core_events.proofs.Values.{value_still}
 use Rattle.core_events.proofs.EntriesAll.{value_is}
-use Rattle.core_events.proofs.ThreadsKept.{threads_keep, threads_split_keep, threads_join_keep}
-use Rattle.core_events.proofs.LocksKept.{locks_keep, locks_split_keep, locks_join_keep}
-use Rattle.core_events.proofs.EntriesKept.{entries_keep, entries_split_keep, entries_join_keep}
-use Rattle.core_events.proofs.TurnKept.{turn_keep, turn_split_keep, turn_join_keep}
-use Rattle.core_events.proofs.PagesKept.{pages_keep, pages_split_keep, pages_join_keep}
-use Rattle.core_events.proofs.NumbersKept.{numbers_keep, numbers_split_keep, numbers_join_keep}
-use Rattle.core_events.proofs.OrderKept.{order_keep, order_split_keep, order_join_keep}
+use Rattle.core_events.proofs.Keeps.{layers_keep, layers_split_keep, layers_join_keep}
 use Rattle.core_events.proofs.ValuesKept.{values_keep, values_split_keep, values_join_keep}
 use Rattle.core_medium.specs.Stores.{Store}
 use Rattle.core_medium.specs.BackCalls.{BackCall}
@@ -83,15 +77,7 @@ module _ (z : Setup) where
   event_keeps m who e v k met =
       let g = k.ghost_is in let l = k.layers in let c : State = m.core in let a = met_allowed m k who e v met in record {
         ghost_is = ghost_after z g c who v e;
-        layers = record {
-          threads = threads_keep z e c who v g l.threads a;
-          locks = locks_keep z e c who v g l.threads l.locks a;
-          entries = entries_keep z e c who v g l.threads l.locks l.entries a;
-          numbers = numbers_keep z e c who v g l.threads l.locks l.turn l.numbers a;
-          turn = turn_keep z e c who v g l.threads l.locks l.turn a;
-          pages = pages_keep z e c who v g l.threads l.locks l.turn l.pages a;
-          order = order_keep z e c who v g l.threads l.locks l.turn l.numbers l.order a;
-        };
+        layers = layers_keep z e c who v g l a;
         values = λ told. values_keep z e c who v g l.threads l.locks l.entries l.numbers l.turn l.pages told a (k.values told);
         store = store_keep z g c l m.store k.store who v e a met.meets;
       }
@@ -108,15 +94,7 @@ module _ (z : Setup) where
   split_keeps m who draws v k may =
       let g = k.ghost_is in let l = k.layers in let c : State = m.core in record {
         ghost_is = g;
-        layers = record {
-          threads = threads_split_keep z c who draws v g l.threads may;
-          locks = locks_split_keep z c who draws v g l.locks may;
-          entries = entries_split_keep z c who draws v g l.entries may;
-          numbers = numbers_split_keep z c who draws v g l.numbers may;
-          turn = turn_split_keep z c who draws v g l.threads l.turn may;
-          pages = pages_split_keep z c who draws v g l.pages may;
-          order = order_split_keep z c who draws v g l.order may;
-        };
+        layers = layers_split_keep z c who draws v g l may;
         values = λ told. values_split_keep z c who draws v g (k.values told) may;
         store = store_split_keep z g c m.store k.store who draws v may;
       }
@@ -125,15 +103,7 @@ module _ (z : Setup) where
   join_keeps m who other v w k may =
       let g = k.ghost_is in let l = k.layers in let c : State = m.core in record {
         ghost_is = ghost_joined g who other;
-        layers = record {
-          threads = threads_join_keep z c who other v w g l.threads may;
-          locks = locks_join_keep z c who other v w g l.locks may;
-          entries = entries_join_keep z c who other v w g l.entries may;
-          numbers = numbers_join_keep z c who other v w g l.numbers may;
-          turn = turn_join_keep z c who other v w g l.threads l.turn may;
-          pages = pages_join_keep z c who other v w g l.pages may;
-          order = order_join_keep z c who other v w g l.order may;
-        };
+        layers = layers_join_keep z c who other v w g l may;
         values = λ told. values_join_keep z c who other v w g l.locks (k.values told) may;
         store = store_join_keep z g c m.store k.store who other v w may;
       }

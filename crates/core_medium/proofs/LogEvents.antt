@@ -22,7 +22,7 @@ use Rattle.core_events.proofs.Boxes.{box_same}
 use Rattle.core_events.proofs.TurnKept.{checking_number, taking_number, reaching_number}
 use Rattle.core_medium.specs.KeptLog.{IsOnMedium, IsPosted, IsOverRing, Drawer, drawer_of, WaitsWith, LogStands, LogIn}
 use Rattle.core_medium.specs.HistoryLaws.{EmptiesPersisted}
-use Rattle.core_medium.proofs.LogOn.{stands_hist}
+use Rattle.core_medium.proofs.LogOn.{stands_drawn, stands_hist}
 use Rattle.core_medium.proofs.Posted.{full_record, posted_upto, post_box, history_on, posted_on}
 
 abbrev drawer : Option ℕ → ℕ → Drawer
@@ -84,19 +84,12 @@ module _ (z : Setup) (g : Ghost) (c : State) (l : LogState) (k : LayersKept z g 
   -- the drawers, where one view is another
   drawn_with : (u : View) → ((t : ℕ) → u.part.thread ≡ Some t → 0 < u.tx.hand.number → IsOverRing l t u.tx.hand.number)
       → LogStands z g.claims.hist c.boxes (numbers_of c.persisted) (map drawer_of (set c.views who u)) l
-  drawn_with u mine = record {
-    from = s.from;
-    home = s.home;
-    marked = s.marked;
-    waits = s.waits;
-    left_on = s.left_on;
-    boxed = s.boxed;
-    drawn = λ i t r e th pos. ⊎_elim
-        (λ hit. subst (λ (y : Drawer). IsOverRing l t y.number) hit.1
-        (mine t (ap (λ (y : Drawer). y.thread) hit.1 ∙ th) (let is : u.tx.hand.number ≡ r.number = ap (λ (y : Drawer). y.number) hit.1 in omega arith)))
-        (λ miss. s.drawn i t r miss.1 th pos)
-        (drawer_cases u i r e);
-  }
+  drawn_with u mine =
+      stands_drawn z g.claims.hist c.boxes (numbers_of c.persisted) (map drawer_of c.views) (map drawer_of (set c.views who u)) l s (λ i t r e th pos. ⊎_elim
+      (λ hit. subst (λ (y : Drawer). IsOverRing l t y.number) hit.1
+      (mine t (ap (λ (y : Drawer). y.thread) hit.1 ∙ th) (let is : u.tx.hand.number ≡ r.number = ap (λ (y : Drawer). y.number) hit.1 in omega arith)))
+      (λ miss. s.drawn i t r miss.1 th pos)
+      (drawer_cases u i r e))
 
   -- ---- boxes, records and drawers stay
   log_rest : (g2 : Ghost) (c2 : State) → ((n : ℕ) → (n ≤ z.first) ⊎ IsPosted c.boxes (numbers_of c.persisted) n → g2.claims.hist n ≡ g.claims.hist n)

@@ -1,8 +1,11 @@
 -- What is said of the log outlasts changes of what is beside it.
-use Rattle.std.proofs.Common.{◌≡◌, ℕ, zero, suc, ◌+◌, ◌≤◌, ◌⊎◌, List, refl, sym, ap, ◌∙◌, inl, inr, arith}
+use Rattle.std.proofs.Common.{◌≡◌, ℕ, zero, suc, ◌+◌, ◌<◌, ◌≤◌, ◌⊎◌, List, refl, sym, ap, ◌∙◌, inl, inr, arith}
+use Rattle.std.specs.Prelude.{Some}
 use Rattle.std.specs.List.{Contains}
+use mathlib.Core.Option.{some}
 use mathlib.Core.Logic.{dite}
 use native.Mathlib.Decide.{dec_lt}
+use lib.ListN.{get_elem?}
 use Rattle.dude_base.specs.declared.write.Write.{Write}
 use Rattle.dude_base.specs.Records.{first_of, Covers}
 use Rattle.dude_base.specs.Writes.{written}
@@ -11,7 +14,7 @@ use Rattle.redo_record.specs.Waiting.{Waiting}
 use Rattle.core_events.specs.Setups.{Setup}
 use Rattle.core_events.specs.Entries.{History, value}
 use Rattle.core_events.proofs.Values.{value_agree}
-use Rattle.core_medium.specs.KeptLog.{last_write, IsOnMedium, IsPosted, Drawer, LogStands}
+use Rattle.core_medium.specs.KeptLog.{last_write, IsOnMedium, IsPosted, IsOverRing, Drawer, LogStands}
 
 -- a number that is on the medium still is, where the mark rises and no covered number is lost
 pub on_medium_more : (l l2 : LogState) (n : ℕ) → l.reproduced ≤ l2.reproduced → ((w : Waiting) → Contains l.waiting w → Covers w.redo n → IsOnMedium l2 n) → IsOnMedium l n → IsOnMedium l2 n
@@ -23,6 +26,11 @@ last_agree : (hist hist2 : History) (first more i : ℕ) → ((n : ℕ) → firs
 last_agree hist hist2 first zero i same = ap (λ (ws : List Write). written ws i) (same first (omega arith) (omega arith))
 last_agree hist hist2 first (suc more) i same =
     rw (same (first + suc more) (omega arith) (omega arith), last_agree hist hist2 first more i (λ n low high. same n low (omega arith))) refl
+
+-- of drawers it says only that each is over what waits in its ring
+pub stands_drawn : (z : Setup) (hist : History) (boxes left : List ℕ) (old new : List Drawer) (l : LogState) → LogStands z hist boxes left old l
+    → ((i t : ℕ) (r : Drawer) → get_elem? new i ≡ some r → r.thread ≡ Some t → 0 < r.number → IsOverRing l t r.number) → LogStands z hist boxes left new l
+stands_drawn z hist boxes left old new l k drawn = record { from = k.from; home = k.home; marked = k.marked; waits = k.waits; left_on = k.left_on; boxed = k.boxed; drawn = drawn }
 
 module _ (z : Setup) (hist hist2 : History) (boxes left : List ℕ) (drawers : List Drawer) (l : LogState) (k : LogStands z hist boxes left drawers l)
     (same : (n : ℕ) → (n ≤ z.first) ⊎ IsPosted boxes left n → hist2 n ≡ hist n) where

@@ -12,20 +12,15 @@ use Rattle.core_events.specs.Ghosts.{Ghost, ghost_joined}
 use Rattle.core_events.specs.KeptNumbers.{numbers_of}
 use Rattle.core_events.proofs.Lists.{at_set, at_snoc, unmoved}
 use Rattle.core_medium.specs.KeptLog.{Drawer, drawer_of, LogStands, LogIn}
+use Rattle.core_medium.proofs.LogOn.{stands_drawn}
 
 module _ (z : Setup) (g : Ghost) (c : State) (l : LogState) (k : LogIn z g c l) where
   -- drawers, where those that aren't old ones have no number
   stands_with : (views2 : List View) → ((i : ℕ) (r : Drawer) → get_elem? (map drawer_of views2) i ≡ some r → (r.number ≡ 0) ⊎ (get_elem? (map drawer_of c.views) i ≡ some r))
       → LogStands z g.claims.hist c.boxes (numbers_of c.persisted) (map drawer_of views2) l
-  stands_with views2 old = record {
-    from = k.from;
-    home = k.home;
-    marked = k.marked;
-    waits = k.waits;
-    left_on = k.left_on;
-    boxed = k.boxed;
-    drawn = λ i t r e th pos. ⊎_elim (λ none_drawn. absurd (omega arith)) (λ there. k.drawn i t r there th pos) (old i r e);
-  }
+  stands_with views2 old =
+      stands_drawn z g.claims.hist c.boxes (numbers_of c.persisted) (map drawer_of c.views) (map drawer_of views2) l k
+      (λ i t r e th pos. ⊎_elim (λ none_drawn. absurd (omega arith)) (λ there. k.drawn i t r there th pos) (old i r e))
 
   map_snoc : (views : List View) (a : View) → map drawer_of (views ++ a ∷ []) ≡ map drawer_of views ++ drawer_of a ∷ []
   map_snoc [] a = refl

@@ -61,12 +61,4 @@ module _ (z : Setup) (g g2 : Ghost) (c : State) (d : Store) (k : StoreKept z g c
   -- the layer, with other things beside the log
   pub store_by : (c2 : State) (read2 : List (ℕ × ℕ)) → LogIn z g2 c2 d.log → ToldKept z g2.claims.hist c2.durable c2.reproduced (record d { read = read2 })
       → (d.calls ≡ []) ⊎ IsUnderWay z c2.boxes c2.records d.log d.rest.told d.next d.calls → StoreKept z g2 c2 (record d { read = read2 })
-  store_by c2 read2 stands told under = record {
-    places = k.places;
-    holds = k.holds;
-    laid = k.laid;
-    next_in = k.next_in;
-    stands = stands;
-    told = told;
-    under = under;
-  }
+  store_by c2 read2 stands told under = record { places = k.places; holds = k.holds; laid = k.laid; next_in = k.next_in; stands = stands; told = told; under = under }

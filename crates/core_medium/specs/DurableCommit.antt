@@ -1,6 +1,6 @@
 -- One transaction on the smallest image, step by step: a thread reads the word 3 and writes it, and in one turn its record is persisted,
 -- announced and reproduced, call by call; then the page is evicted, and the word filled in again from the medium.
-use Rattle.std.specs.Prelude.{◌≡◌, ◌+◌, ◌*◌, List, [], ◌∷◌, ◌++◌, length, map, replicate, true, false, slice_index}
+use Rattle.std.specs.Prelude.{◌≡◌, ◌+◌, ◌*◌, List, [], ◌∷◌, ◌++◌, length, map, replicate, false, slice_index}
 use Rattle.dude_base.specs.declared.limits.TheConstants.{PAGE}
 use Rattle.dude_base.specs.declared.sizes.Sizes.{Sizes}
 use Rattle.dude_base.specs.Image.{cell_at}
@@ -12,7 +12,7 @@ use Rattle.redo_record.specs.BackCalls.{announce_calls, reproduce_calls, read_pa
 use Rattle.core_events.specs.Setups.{Setup}
 use Rattle.core_events.specs.Events.{Event, number, see_box, begin, entry, pin, look, load, check, take, draw, decide, store, touch, release, unpin, post, take_turn, empty_box, raise_durable, raise_reproduced, evict, load_touch, fill, give_turn, no_about}
 use Rattle.core_events.specs.Partings.{event}
-use Rattle.core_events.specs.OneCommit.{one_write}
+use Rattle.core_events.specs.OneCommit.{smallest, one_write}
 use Rattle.core_medium.specs.Machines.{Machine, MachineStep, on_words, device, AllMachineLead}
 use Rattle.core_medium.specs.KeptStore.{opening_medium, start_machine}
 
@@ -22,17 +22,7 @@ small_sizes = sizes_for 1 1 1 16
 
 -- one thread, lock and box, and all pages in frames; all words are 0
 abbrev pub small_setup : Setup
-small_setup = record {
-  threads = 1;
-  locks = 1;
-  pages = 3;
-  frames = 3;
-  boxes = 1;
-  opening = replicate (3 * PAGE) 0;
-  first = 0;
-  is_told = true;
-  may_fail = false;
-}
+small_setup = record smallest { pages = 3; frames = 3; opening = replicate (3 * PAGE) 0 }
 
 -- the machine at the start, over the medium of its image
 abbrev pub small_machine : Machine

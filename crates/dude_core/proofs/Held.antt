@@ -1,5 +1,5 @@
 -- What is said of each write of a number, write by write.
-use Rattle.std.proofs.Common.{◌≡◌, ◌*◌, ◌<◌, ◌≤◌, ℕ, zero, suc, List, [], ◌∷◌, length, get_or, refl, subst, arith, eq-eqb, ne_eqb}
+use Rattle.std.proofs.Common.{◌≡◌, ◌*◌, ◌<◌, ◌≤◌, ℕ, zero, suc, Bool, true, false, List, [], ◌∷◌, length, get_or, refl, subst, arith, eq-eqb, ne_eqb}
 use mathlib.Core.Logic.{dite}
 use native.Mathlib.Decide.{ℕ_discrete}
 use Rattle.std.specs.Prelude.{Some, slice_get}
@@ -10,7 +10,8 @@ use Rattle.core_events.specs.Views.{View}
 use Rattle.core_events.specs.Setups.{Setup, page_of, lock_of}
 use Rattle.core_events.specs.Conditions.{Owns, Pins}
 use Rattle.dude_core.proofs.Walks.{AllBelow, all_told, get_of}
-use Rattle.dude_core.specs.Held.{Holds, HoldsAll}
+use Rattle.dude_core.specs.Held.{AnswersEach, Holds, HoldsAll}
+use Rattle.dude_core.specs.Named.{Tells}
 
 pub written_one : (ws : List Write) (i x : ℕ) → written ws i ≡ Some x → (j : ℕ) × (w : Write) × (j < length ws) × (slice_get ws j ≡ Some w) × (w.at ≡ i)
 written_one [] i x e = absurd (cc)
@@ -28,8 +29,11 @@ one_written (v ∷ ws) (suc k) w e = dite (ℕ_discrete v.at w.at)
 pub told_written : (P : ℕ → Type 0) (ws : List Write) (k : ℕ) → length ws ≤ k → AllBelow (λ (w : Write). P w.at) ws k → (i x : ℕ) → written ws i ≡ Some x → P i
 told_written P ws k le below i x e = let r = written_one ws i x e in subst P r.4 (below r.0 r.1 (let lt = r.2 in omega arith) r.3)
 
-pub not_written : (P : ℕ → Type 0) (ws : List Write) (k : ℕ) (w : Write) → slice_get ws k ≡ Some w → (P w.at → ⊥) → ((i x : ℕ) → written ws i ≡ Some x → P i) → ⊥
-not_written P ws k w at never all = let r = one_written ws k w at in never (all w.at r.0 r.1)
+-- what is asked of each written word tells of them all
+pub told_each : {E : ℕ → Bool → Type 0} {ws : List Write} (b : Bool) (Q : Type 0) (P : ℕ → Type 0) → (((i x : ℕ) → written ws i ≡ Some x → P i) → Q) → (Q → (i x : ℕ) → written ws i ≡ Some x → P i)
+    → ((i : ℕ) (t : Bool) → E i t → Tells t (P i)) → AnswersEach E ws b → Tells b Q
+told_each true Q P make of tells a = make (λ i x e. tells i true (a.told i x e))
+told_each false Q P make of tells a = λ q. let one = a.told in tells one.0 false one.2 (of q one.0 one.1.0 one.1.1)
 
 module _ (z : Setup) (v : View) where
   pub holds_told : (ws : List Write) (k : ℕ) → length ws ≤ k → AllBelow (Holds z v) ws k → HoldsAll z v ws

@@ -18,10 +18,10 @@ data_of s rings waiting home reproduced released made since marks read = record 
   rings = rings;
   waiting = waiting;
   home = home;
-  reproduced = reproduced;
-  released = released;
   ended = take since made;
   calls = drop since made;
+  reproduced = reproduced;
+  released = released;
   marks = marks;
   read = read;
 }

@@ -1,5 +1,5 @@
 -- What a view says of the writes of a number, and of the value that waits.
-use Rattle.std.specs.Prelude.{◌≡◌, ◌*◌, ◌<◌, ℕ, true, List, All, Some}
+use Rattle.std.specs.Prelude.{◌≡◌, ◌*◌, ◌<◌, ℕ, Bool, true, false, List, All, Some, MatchBool}
 use Rattle.dude_base.specs.declared.limits.TheConstants.{PAGE}
 use Rattle.dude_base.specs.declared.write.Write.{Write}
 use Rattle.dude_base.specs.Writes.{written}
@@ -17,6 +17,10 @@ pub record HoldsAll (z : Setup) (v : View) (ws : List Write) : Type 0 where
   pub inside : All (λ w. w.at < z.pages * PAGE) ws
   pub owned : (i x : ℕ) → written ws i ≡ Some x → Owns v (lock_of z i)
   pub pinned : (i x : ℕ) → written ws i ≡ Some x → Pins v (page_of i)
+
+-- r says whether E answers true at each written word; where it doesn't, E answers false at one
+pub record AnswersEach (E : ℕ → Bool → Type 0) (ws : List Write) (r : Bool) : Type 0 where
+  pub told : MatchBool r ((i x : ℕ) → written ws i ≡ Some x → E i true) ((i : ℕ) × ((x : ℕ) × (written ws i ≡ Some x)) × E i false)
 
 -- all written words under the lock k are stored
 pub record IsStoredUnder (z : Setup) (ws : List Write) (stored : List ℕ) (k : ℕ) : Type 0 where

@@ -19,15 +19,15 @@ use Rattle.dude_core.specs.declared.deed.Deed.TheVariants.{Read, Write, Turn as 
 -- the word of the definitions that this value names
 abbrev pub word_of : Named → Word
 word_of Threads = the_threads
+word_of (Box k) = the_box k
 word_of Clock = the_clock
-word_of Turn = the_turn
-word_of Durable = the_durable
-word_of Reproduced = the_reproduced
 word_of (Lock k) = the_lock k
 word_of (Entry p) = the_entry p
 word_of (Touch p) = the_touch p
 word_of (Cell i) = the_cell i
-word_of (Box k) = the_box k
+word_of Turn = the_turn
+word_of Durable = the_durable
+word_of Reproduced = the_reproduced
 
 -- a word of the definitions with the number found in it, or none
 abbrev pub found_of : Option (Named × ℕ) → Option (Word × ℕ)

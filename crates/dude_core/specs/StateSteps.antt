@@ -11,7 +11,10 @@ use Rattle.core_events.specs.Partings.{Step, Leads, event}
 use Rattle.core_events.specs.Telling.{IsSeated, WordTold}
 use Rattle.dude_core.specs.declared.deed.Deed.{Deed}
 use Rattle.core_medium.specs.Machines.{Machine, MachineStep, on_words, IsMet, MachineLeads}
+use Rattle.core_medium.specs.KeptStore.{MachineKept}
 use Rattle.dude_core.specs.Named.{event_of}
+use Rattle.dude_core.specs.StoreData.{StoreData}
+use Rattle.dude_core.specs.Stands.{machine_over}
 use Rattle.dude_core.specs.declared.core_refusal.CoreRefusal.{CoreRefusal}
 use Rattle.dude_core.specs.declared.core_refusal.CoreRefusal.TheVariants.{Off}
 
@@ -39,6 +42,20 @@ IsOffIn z m s = (n : Machine) → MachineLeads z m s n → ⊥
 abbrev pub IsOffOnlyIn : {A : Type 0} → Result A CoreRefusal → Setup → Machine → MachineStep → Type 0
 IsOffOnlyIn r z m s = IsErrOf r Off ↔ IsOffIn z m s
 
+-- ---- a state and a store as data, as a machine
+-- they are kept
+abbrev pub IsKeptOver : Setup → State → StoreData → Type 0
+IsKeptOver z c a = MachineKept z (machine_over z c a)
+
+-- the step is allowed over them, and leads to these
+abbrev pub LeadsOver : Setup → State → StoreData → MachineStep → State → StoreData → Type 0
+LeadsOver z c a s d b = MachineLeads z (machine_over z c a) s (machine_over z d b)
+
+-- a call is refused as off exactly where the step isn't allowed over them
+abbrev pub IsOffOnlyOver : {A : Type 0} → Result A CoreRefusal → Setup → State → StoreData → MachineStep → Type 0
+IsOffOnlyOver r z c a s = IsOffOnlyIn r z (machine_over z c a) s
+
+-- ---- the parts of an event
 -- the view `who` may make the event
 abbrev pub MayMake : Setup → Machine → ℕ → Event → Type 0
 MayMake z m who e = (v : View) × IsMet z m who e v

@@ -26,9 +26,9 @@ pub fn advance(
     word: Word,
     found: u64,
 ) -> Result<(), AllocError>
+    requires told { WordTold z.now (event_of deed.now) view.old found }
     requires seated { IsSeated z.now view.old }
     requires may { May z.now (event_of deed.now) view.old }
-    requires told { WordTold z.now (event_of deed.now) view.old found }
     requires name { word_of word ≡ name z.now (event_of deed.now) view.old }
     ensures { Advances result z.now (event_of deed.now) view.old found view.new }
 {
@@ -36,6 +36,6 @@ pub fn advance(
         Deed::Read(deed) => read(view, alloc, z, deed, word, found),
         Deed::Write(deed) => write(view, alloc, z, deed, word, found),
         Deed::Turn(deed) => turn(view, z, deed, word, found),
-        Deed::Page(deed) => page(view, z, deed, word, found),
+        Deed::Page(deed) => page(view, z, deed, found),
     }
 }

@@ -1,14 +1,12 @@
 //! The writes of waiting bundles that lead from one number to another.
 
-ghost use Rattle.dude_base.specs.Writes.{HasDistinctPlaces};
 ghost use Rattle.dude_core.specs.Chains.{CanChain, HasTaken};
 ghost use Rattle.redo_record.specs.Waiting.{IsEnd};
-ghost use Rattle.std.specs.Prelude.{◌≡◌, ◌+◌, ◌≤◌, ◌++◌, MatchBool, length};
+ghost use Rattle.std.specs.Prelude.{◌≡◌, MatchBool};
 
 use crate::leading::bundle_behind;
 use crate::waiting_bundle::WaitingBundle;
-use dude_base::bundle::Bundle;
-use group_combine::Group;
+use group_combine::{Group, take_bundle};
 
 /// Takes the writes of the waiting bundles that lead from one number to another; whether there are
 /// such bundles.
@@ -30,16 +28,4 @@ pub(crate) fn take_chain(out: &mut Group, waiting: &[WaitingBundle], from: u64, 
         }
     }
     end == number
-}
-
-// Takes the writes of a bundle.
-fn take_bundle(bundle: &Bundle, out: &mut Group)
-    requires { length out.old.taken + length bundle.now.writes ≤ out.old.room }
-    ensures taken { out.new.taken ≡ out.old.taken ++ bundle.now.writes }
-    ensures room { out.new.room ≡ out.old.room }
-    ensures distinct { HasDistinctPlaces bundle.now.writes }
-{
-    for k in 0..bundle.len() {
-        out.take(bundle.write_at(k));
-    }
 }

@@ -1,5 +1,9 @@
 //! Why no core was made.
 
+ghost use Rattle.dude_core.specs.Texts.{fault_words};
+ghost use Rattle.dude_core.specs.declared.core_fault.CoreFault.TheVariants.{NoMemory};
+ghost use Rattle.std.specs.Prelude.{Some, ◌≡◌};
+
 use std::alloc::AllocError;
 use std::error::Error;
 use std::fmt;
@@ -15,9 +19,6 @@ pub enum CoreFault {
 }
 
 impl fmt::Display for CoreFault {
-    ghost use Rattle.dude_core.specs.Texts.{fault_words};
-    ghost use Rattle.std.specs.Prelude.{Some};
-
     ghost output = { λ fault. Some (fault_words fault) };
 
     fn fmt<W: fmt::Write>(&self, f: &mut fmt::Formatter<W>) -> fmt::Result {
@@ -36,9 +37,6 @@ impl fmt::Display for CoreFault {
 impl Error for CoreFault {}
 
 impl From<AllocError> for CoreFault {
-    ghost use Rattle.dude_core.specs.declared.core_fault.CoreFault.TheVariants.{NoMemory};
-    ghost use Rattle.std.specs.Prelude.{◌≡◌};
-
     ghost from_gives = { λ _ fault. fault ≡ NoMemory };
 
     fn from(_refused: AllocError) -> Self {

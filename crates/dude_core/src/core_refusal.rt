@@ -1,5 +1,6 @@
 //! Why an event wasn't made.
 
+ghost use Rattle.dude_core.specs.declared.core_refusal.CoreRefusal.{CoreRefusal};
 ghost use Rattle.std.specs.Prelude.{◌≡◌};
 
 use std::alloc::AllocError;
@@ -14,8 +15,6 @@ pub enum CoreRefusal {
 }
 
 impl From<AllocError> for CoreRefusal {
-    ghost use Rattle.dude_core.specs.declared.core_refusal.CoreRefusal.{CoreRefusal};
-
     ghost from_gives = { λ e r. r ≡ CoreRefusal.NoMemory };
 
     fn from(_: AllocError) -> Self {

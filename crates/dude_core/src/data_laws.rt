@@ -1,7 +1,6 @@
 //! What the data of a store stands for.
 
-ghost use Rattle.dude_core.specs.DataLaws.{LawOfStartData, LawOfEffectCalls, LawOfEffects};
-ghost use Rattle.dude_core.specs.DataLaws.{LawOfTold, LawOfOnMedium};
+ghost use Rattle.dude_core.specs.DataLaws.{LawOfStartData, LawOfEffectCalls, LawOfEffects, LawOfTold, LawOfOnMedium};
 
 /// The data at the start stands for the store at the start, over the opening medium.
 pub fn law_of_start_data()

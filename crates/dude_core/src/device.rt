@@ -1,12 +1,11 @@
 //! One call on the medium.
 
-ghost use Rattle.core_medium.specs.KeptStore.{MachineKept};
 ghost use Rattle.dude_base.specs.Records.{HasNumbers};
 ghost use Rattle.dude_base.specs.declared.limits.TheConstants.{PAGE as PAGE_WORDS};
 ghost use Rattle.dude_core.specs.Chains.{writes_in};
 ghost use Rattle.dude_core.specs.Effects.{reads_page, replays, appends, called, rested};
 ghost use Rattle.dude_core.specs.MadeCalls.{made_by, HasMade, MakesNone, refused_as};
-ghost use Rattle.dude_core.specs.Stands.{machine_over};
+ghost use Rattle.dude_core.specs.StateSteps.{IsKeptOver};
 ghost use Rattle.std.specs.Prelude.{◌≡◌, ◌↔◌, ◌+◌, ◌*◌, ◌^◌, ◌<◌, ◌≤◌, All, AllPairs, OnOk, OnErr, IsErrOf, length};
 
 use crate::core_refusal::CoreRefusal;
@@ -31,7 +30,7 @@ pub(crate) fn make_call(
     z: &Setup,
     call: Call,
 ) -> Result<(), CoreRefusal>
-    requires kept { MachineKept z.now (machine_over z.now state.now store.old) }
+    requires kept { IsKeptOver z.now state.now store.old }
     requires room { writes_in store.old.waiting ≤ room.old.room }
     ensures room { writes_in store.new.waiting ≤ room.new.room }
     ensures ok { OnOk result (HasMade z.now state.now store.old call store.new) }

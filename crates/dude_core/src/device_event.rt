@@ -1,13 +1,11 @@
 //! The event that makes one call on the medium.
 
 ghost use Rattle.core_events.specs.Views.{View as Seen};
-ghost use Rattle.core_medium.specs.KeptStore.{MachineKept};
-ghost use Rattle.core_medium.specs.Machines.{MachineLeads, device};
+ghost use Rattle.core_medium.specs.Machines.{device};
 ghost use Rattle.dude_core.specs.Chains.{writes_in};
 ghost use Rattle.dude_core.specs.MadeCalls.{HasTurnAt};
 ghost use Rattle.dude_core.specs.Named.{Tells};
-ghost use Rattle.dude_core.specs.Stands.{machine_over};
-ghost use Rattle.dude_core.specs.StateSteps.{IsOffOnlyIn};
+ghost use Rattle.dude_core.specs.StateSteps.{IsKeptOver, IsOffOnlyOver, LeadsOver};
 ghost use Rattle.std.specs.Prelude.{◌≡◌, ◌≤◌, OnOk, OnErr};
 
 use crate::core_refusal::CoreRefusal;
@@ -30,14 +28,13 @@ pub(crate) fn make_device(
     who: u64,
     call: Call,
 ) -> Result<(), CoreRefusal>
-    requires kept { MachineKept z.now (machine_over z.now state.now store.old) }
+    requires kept { IsKeptOver z.now state.now store.old }
     requires room { writes_in store.old.waiting ≤ room.old.room }
     ensures room { writes_in store.new.waiting ≤ room.new.room }
-    ensures ok { OnOk result (MachineLeads z.now (machine_over z.now state.now store.old)
-        (device who call) (machine_over z.now state.now store.new)) }
+    ensures ok { OnOk result (LeadsOver z.now state.now store.old (device who call) state.now
+        store.new) }
     ensures err { OnErr result (store.new ≡ store.old) }
-    ensures off { IsOffOnlyIn result z.now (machine_over z.now state.now store.old)
-        (device who call) }
+    ensures off { IsOffOnlyOver result z.now state.now store.old (device who call) }
 {
     // Each ring of the image is there.
     let _place = store.place();

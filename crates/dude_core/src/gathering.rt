@@ -1,13 +1,12 @@
 //! Which records in boxes a call on the medium persists together.
 
-ghost use Rattle.core_medium.specs.KeptStore.{MachineKept};
 ghost use Rattle.dude_base.specs.Records.{HasNumbers};
 ghost use Rattle.dude_base.specs.declared.limits.TheConstants.{MAX_NUMBER};
 ghost use Rattle.dude_core.specs.Gathers.{Gathers, GathersNo, Persists, PersistsNone};
 ghost use Rattle.dude_core.specs.Gathers.{number_in, IsLeastOf, IsLower, Joins, IsLonger};
 ghost use Rattle.dude_core.specs.Named.{Tells};
 ghost use Rattle.dude_core.specs.NextCalls.{AppendsOn, AppendsNone};
-ghost use Rattle.dude_core.specs.Stands.{machine_over};
+ghost use Rattle.dude_core.specs.StateSteps.{IsKeptOver};
 ghost use Rattle.std.specs.Prelude.{◌≡◌, ◌≢◌, ◌+◌, ◌<◌, ◌≤◌, ℕ, IfSome, IfNone, length, slice_index};
 
 use crate::fit::ends_by;
@@ -41,7 +40,7 @@ impl Store {
 impl State {
     /// The records in boxes with whose persist the call goes on.
     pub(crate) fn next_persist(&self, store: &Store, z: &Setup, call: Call) -> Option<Gathered>
-        requires { MachineKept z.now (machine_over z.now self.now store.now) }
+        requires { IsKeptOver z.now self.now store.now }
         ensures ring { IfSome result (λ g. g.ring < z.now.threads) }
         ensures some { IfSome result (λ g. Persists z.now self.now store.now call g.ring g.bundle
             g.is_last) }
@@ -59,7 +58,7 @@ impl State {
 
     // The records with whose persist into the ring of the thread the call goes on.
     fn persist_of(&self, store: &Store, z: &Setup, thread: u64, call: Call) -> Option<Gathered>
-        requires kept { MachineKept z.now (machine_over z.now self.now store.now) }
+        requires kept { IsKeptOver z.now self.now store.now }
         requires thread { thread < z.now.threads }
         ensures ring { IfSome result (λ g. g.ring ≡ thread) }
         ensures some { IfSome result (λ g. Persists z.now self.now store.now call thread g.bundle
@@ -120,7 +119,7 @@ impl State {
         bundle: Bundle,
         call: Call,
     ) -> Option<Gathered>
-        requires kept { MachineKept z.now (machine_over z.now self.now store.now) }
+        requires kept { IsKeptOver z.now self.now store.now }
         requires ring { ring < store.now.sizes.rings }
         requires numbers { HasNumbers bundle }
         ensures ring { IfSome result (λ g. g.ring ≡ ring) }
@@ -144,7 +143,7 @@ impl State {
     // The bundle with the record of the next number, where that is in a box and not on the medium,
     // and the bundle takes it.
     fn longer(&self, store: &Store, z: &Setup, bundle: &Bundle) -> Option<Bundle>
-        requires kept { MachineKept z.now (machine_over z.now self.now store.now) }
+        requires kept { IsKeptOver z.now self.now store.now }
         requires numbers { HasNumbers bundle.now }
         ensures numbers { IfSome result HasNumbers }
         ensures some { IfSome result (IsLonger z.now self.now store.now bundle.now) }

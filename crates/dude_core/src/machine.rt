@@ -3,7 +3,7 @@
 ghost use Rattle.core_events.specs.Setups.{IsSetup};
 ghost use Rattle.core_medium.specs.KeptStore.{MachineKept};
 ghost use Rattle.dude_core.specs.CoreState.{CoreState, machine_of, LeadsTo};
-ghost use Rattle.dude_core.specs.MadeCores.{size_fault};
+ghost use Rattle.dude_core.specs.MadeCores.{IsCoreAt, RefusesSize, IsFaultOf, size_fault};
 ghost use Rattle.dude_core.specs.Memory.{TakesNoMemory};
 ghost use Rattle.dude_core.specs.StateSteps.{IsOffOnlyIn};
 ghost use Rattle.dude_core.specs.Steps.{step_of};
@@ -53,7 +53,6 @@ impl Core {
     ghost use Rattle.dude_base.specs.Sizes.{IsAccepted};
     ghost use Rattle.dude_base.specs.declared.limits.TheConstants.{PAGE as PAGE_WORDS, MAX_NUMBER};
     ghost use Rattle.dude_core.specs.CoreWords.{HasWord, word_at};
-    ghost use Rattle.dude_core.specs.MadeCores.{IsCoreAt, RefusesSize, IsFaultOf};
     ghost use Rattle.dude_core.specs.Named.{Tells};
 
     /// The machine at its start over these home words, whose first pages are in frames. Each thread

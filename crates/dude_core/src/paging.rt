@@ -1,10 +1,10 @@
 //! What becomes of a view by the events of pages and frames.
 
 ghost use Rattle.core_events.specs.Conditions.{May};
-ghost use Rattle.core_events.specs.Events.{entry, pin, load_touch, evict, show, name};
+ghost use Rattle.core_events.specs.Events.{entry, pin, load_touch, evict, show};
 ghost use Rattle.core_events.specs.Setups.{page_of};
 ghost use Rattle.dude_core.specs.Moves.{Advances, replaced};
-ghost use Rattle.dude_core.specs.Named.{word_of, filled, of_page};
+ghost use Rattle.dude_core.specs.Named.{filled, of_page};
 ghost use Rattle.std.specs.Prelude.{◌≡◌, ◌<◌, OnOk, OnErr};
 
 use crate::deed::PageDeed;
@@ -19,11 +19,9 @@ pub(crate) fn page(
     view: &mut View,
     z: &Setup,
     deed: &PageDeed,
-    word: Word,
     found: u64,
 ) -> Result<(), AllocError>
-    requires may { May z.now (of_page deed.now) view.old }
-    requires name { word_of word ≡ name z.now (of_page deed.now) view.old }
+    requires { May z.now (of_page deed.now) view.old }
     ensures { Advances result z.now (of_page deed.now) view.old found view.new }
 {
     match deed {
@@ -63,14 +61,11 @@ fn pin(view: &mut View, z: &Setup, page: u64, found: u64) -> Result<(), AllocErr
     Ok(())
 }
 
-fn evict(view: &mut View, z: &Setup, page: u64, found: u64) -> Result<(), AllocError>
-    ensures { Advances result z.now (evict page) view.old found view.new }
+fn load_touch(view: &mut View, z: &Setup, page: u64, found: u64) -> Result<(), AllocError>
+    ensures { Advances result z.now (load_touch page) view.old found view.new }
 {
-    if view.would_evict(page, found) {
-        replace(view, page, 0)?;
-        return Ok(());
-    }
-    see_entry(view, z, page, found)?;
+    view.turn.touches.put_first(page, found)?;
+    view.notice(Word::Touch(page), found);
     Ok(())
 }
 
@@ -82,6 +77,17 @@ fn replace(view: &mut View, page: u64, entry: u64) -> Result<(), AllocError>
     view.paging.entries.put_first(page, entry)?;
     view.turn.touches.remove(page);
     view.turn.filled.remove_page(page);
+    Ok(())
+}
+
+fn evict(view: &mut View, z: &Setup, page: u64, found: u64) -> Result<(), AllocError>
+    ensures { Advances result z.now (evict page) view.old found view.new }
+{
+    if view.would_evict(page, found) {
+        replace(view, page, 0)?;
+        return Ok(());
+    }
+    see_entry(view, z, page, found)?;
     Ok(())
 }
 
@@ -100,13 +106,5 @@ fn show(view: &mut View, z: &Setup, page: u64, frame: u64, found: u64) -> Result
     ensures { Advances result z.now (show page frame) view.old found view.new }
 {
     replace(view, page, z.entry_of(frame))?;
-    Ok(())
-}
-
-fn load_touch(view: &mut View, z: &Setup, page: u64, found: u64) -> Result<(), AllocError>
-    ensures { Advances result z.now (load_touch page) view.old found view.new }
-{
-    view.turn.touches.put_first(page, found)?;
-    view.notice(Word::Touch(page), found);
     Ok(())
 }

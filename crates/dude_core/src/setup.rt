@@ -56,13 +56,13 @@ impl Setup {
             return None;
         }
         Some(Setup {
-            threads,
-            locks: run.locks,
-            pages,
-            frames: run.frames,
-            boxes: run.boxes,
             opening: words,
             first: number,
+            threads,
+            pages,
+            frames: run.frames,
+            locks: run.locks,
+            boxes: run.boxes,
         })
     }
 

@@ -5,12 +5,9 @@ ghost use Rattle.core_events.specs.Events.{next_box};
 ghost use Rattle.core_events.specs.Kept.{Kept};
 ghost use Rattle.core_events.specs.Partings.{Leads};
 ghost use Rattle.core_events.specs.Views.{View as Seen};
-ghost use Rattle.core_medium.specs.KeptStore.{MachineKept};
-ghost use Rattle.core_medium.specs.Machines.{MachineLeads};
 ghost use Rattle.dude_core.specs.Memory.{MayTakeMemory};
 ghost use Rattle.dude_core.specs.Named.{event_of};
-ghost use Rattle.dude_core.specs.Stands.{machine_over};
-ghost use Rattle.dude_core.specs.StateSteps.{IsOffOnlyIn, event_by, machine_step};
+ghost use Rattle.dude_core.specs.StateSteps.{IsKeptOver, IsOffOnlyOver, LeadsOver, event_by, machine_step};
 ghost use Rattle.dude_core.specs.Views.{OfView, HasBoxInside, persisted_from, HasForgotten};
 ghost use Rattle.std.specs.Prelude.{◌≡◌, slice_index_or, slice_set, OnOk, OnErr, IsErrOf};
 ghost use lib.ListN.{get_elem?};
@@ -37,14 +34,13 @@ impl State {
         who: u64,
         deed: &Deed,
     ) -> Result<(), CoreRefusal>
-        requires { MachineKept z.now (machine_over z.now self.old store.old) }
+        requires { IsKeptOver z.now self.old store.old }
         ensures waiting { store.new.waiting ≡ store.old.waiting }
-        ensures ok { OnOk result (MachineLeads z.now (machine_over z.now self.old store.old)
-            (machine_step who deed.now) (machine_over z.now self.new store.new)) }
+        ensures ok { OnOk result (LeadsOver z.now self.old store.old (machine_step who deed.now)
+            self.new store.new) }
         ensures err { OnErr result (self.new ≡ self.old) }
         ensures same { OnErr result (store.new ≡ store.old) }
-        ensures off { IsOffOnlyIn result z.now (machine_over z.now self.old store.old)
-            (machine_step who deed.now) }
+        ensures off { IsOffOnlyOver result z.now self.old store.old (machine_step who deed.now) }
         ensures memory { IsErrOf result CoreRefusal.NoMemory → MayTakeMemory (event_of deed.now) }
     {
         if !self.may_make(store, z, who, deed) {

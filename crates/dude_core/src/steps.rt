@@ -1,11 +1,8 @@
 //! An event made on the state and its store.
 
-ghost use Rattle.core_medium.specs.KeptStore.{MachineKept};
-ghost use Rattle.core_medium.specs.Machines.{MachineLeads};
 ghost use Rattle.dude_core.specs.Chains.{writes_in};
 ghost use Rattle.dude_core.specs.Memory.{TakesNoMemory};
-ghost use Rattle.dude_core.specs.Stands.{machine_over};
-ghost use Rattle.dude_core.specs.StateSteps.{IsOffOnlyIn};
+ghost use Rattle.dude_core.specs.StateSteps.{IsKeptOver, IsOffOnlyOver, LeadsOver};
 ghost use Rattle.dude_core.specs.Steps.{step_of};
 ghost use Rattle.std.specs.Prelude.{◌≡◌, ◌≢◌, ◌≤◌, Err, OnOk, OnErr};
 
@@ -28,14 +25,14 @@ pub(crate) fn step(
     who: u64,
     event: &Event,
 ) -> Result<(), CoreRefusal>
-    requires kept { MachineKept z.now (machine_over z.now state.old store.old) }
+    requires kept { IsKeptOver z.now state.old store.old }
     requires room { writes_in store.old.waiting ≤ room.old.room }
     ensures room { writes_in store.new.waiting ≤ room.new.room }
-    ensures ok { OnOk result (MachineLeads z.now (machine_over z.now state.old store.old)
-        (step_of store.old.read who event.now) (machine_over z.now state.new store.new)) }
+    ensures ok { OnOk result (LeadsOver z.now state.old store.old
+        (step_of store.old.read who event.now) state.new store.new) }
     ensures err { OnErr result (state.new ≡ state.old) }
     ensures same { OnErr result (store.new ≡ store.old) }
-    ensures off { IsOffOnlyIn result z.now (machine_over z.now state.old store.old)
+    ensures off { IsOffOnlyOver result z.now state.old store.old
         (step_of store.old.read who event.now) }
     ensures no_memory { TakesNoMemory event.now → result ≢ Err CoreRefusal.NoMemory }
 {

@@ -3,7 +3,7 @@
 ghost use Rattle.dude_core.specs.Named.{Tells};
 ghost use Rattle.dude_core.specs.StoreData.{tells, ToldFrom};
 ghost use Rattle.pmem_trait.specs.Words.{IsIn};
-ghost use Rattle.std.specs.Prelude.{◌≡◌, ◌<◌, [], ◌∷◌, Some, length, slice_get};
+ghost use Rattle.std.specs.Prelude.{[], ◌∷◌};
 
 use crate::store::Store;
 use pmem_trait::Call;
@@ -31,20 +31,13 @@ impl Store {
 fn has_told(calls: &[Call], number: u64) -> bool
     ensures { Tells result (IsIn number (tells calls.now)) }
 {
-    for k in 0..calls.len() as u64 {
-        let call = call_at(calls, k);
-        if tells_it(&call, number) {
-            return true;
-        }
-    }
-    false
+    calls.iter().any(|call| tells_it(call, number))
 }
 
-fn call_at(calls: &[Call], k: u64) -> Call
-    requires { k < length calls.now }
-    ensures { slice_get calls.now k ≡ Some result }
+fn has_told_from(calls: &[Call], number: u64) -> bool
+    ensures { Tells result (ToldFrom number (tells calls.now)) }
 {
-    calls[k as usize]
+    calls.iter().any(|call| tells_from(call, number))
 }
 
 fn tells_it(call: &Call, number: u64) -> bool
@@ -54,18 +47,6 @@ fn tells_it(call: &Call, number: u64) -> bool
         Call::Tell(told) => *told == number,
         Call::Read(_) | Call::Put { .. } | Call::Flush(_) | Call::Fence => false,
     }
-}
-
-fn has_told_from(calls: &[Call], number: u64) -> bool
-    ensures { Tells result (ToldFrom number (tells calls.now)) }
-{
-    for k in 0..calls.len() as u64 {
-        let call = call_at(calls, k);
-        if tells_from(&call, number) {
-            return true;
-        }
-    }
-    false
 }
 
 fn tells_from(call: &Call, number: u64) -> bool

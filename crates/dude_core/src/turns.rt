@@ -16,10 +16,10 @@ pub(crate) fn may_turn(view: &View, z: &Setup, deed: &TurnDeed) -> bool
     match deed {
         TurnDeed::SeeBox => may_see_box(view, z),
         TurnDeed::Post => may_post(view, z),
-        TurnDeed::TakeTurn => may_take_turn(view, z),
-        TurnDeed::GiveTurn { failed } => may_give_turn(view, z, *failed),
         TurnDeed::SeeFull { thread, place } => may_see_full(view, z, *thread, *place),
         TurnDeed::EmptyBox { thread, place } => may_empty_box(view, z, *thread, *place),
+        TurnDeed::TakeTurn => may_take_turn(view, z),
+        TurnDeed::GiveTurn { failed } => may_give_turn(view, z, *failed),
         TurnDeed::RaiseDurable { value: _ } => may_raise_durable(view, z),
         TurnDeed::RaiseReproduced { value: _ } => may_raise_reproduced(view, z),
     }

@@ -12,14 +12,6 @@ pub struct WaitingBundle {
     redo: Bundle,
 }
 
-impl Model for WaitingBundle {
-    ghost use Rattle.redo_record.specs.Waiting.{Waiting};
-
-    ghost Value = { Waiting };
-
-    ghost view = { λ w. record { ring = w.ring; redo = w.redo } };
-}
-
 impl WaitingBundle {
     /// The bundle, in this ring.
     pub fn new(ring: u64, redo: Bundle) -> Self
@@ -41,4 +33,12 @@ impl WaitingBundle {
     {
         &self.redo
     }
+}
+
+impl Model for WaitingBundle {
+    ghost use Rattle.redo_record.specs.Waiting.{Waiting};
+
+    ghost Value = { Waiting };
+
+    ghost view = { λ w. record { ring = w.ring; redo = w.redo } };
 }

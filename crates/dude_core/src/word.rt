@@ -5,14 +5,10 @@
 pub enum Word {
     /// How many threads' numbers were drawn.
     Threads,
+    /// The box of this number.
+    Box(u64),
     /// The last number drawn.
     Clock,
-    /// Which thread has the turn.
-    Turn,
-    /// The durable number.
-    Durable,
-    /// The reproduced number.
-    Reproduced,
     /// The lock of this number.
     Lock(u64),
     /// The entry of this page.
@@ -21,6 +17,10 @@ pub enum Word {
     Touch(u64),
     /// The frame word of this number.
     Cell(u64),
-    /// The box of this number.
-    Box(u64),
+    /// Which thread has the turn.
+    Turn,
+    /// The durable number.
+    Durable,
+    /// The reproduced number.
+    Reproduced,
 }

@@ -2,7 +2,7 @@
 
 ghost use Rattle.core_events.specs.Keyed.{has};
 ghost use Rattle.core_events.specs.Setups.{lock_of};
-ghost use Rattle.dude_core.specs.Held.{IsStoredUnder, IsSettledAt, IsSettledIn, WritesIn};
+ghost use Rattle.dude_core.specs.Held.{AnswersEach, IsStoredUnder, IsSettledAt, IsSettledIn, WritesIn};
 ghost use Rattle.dude_core.specs.Named.{Tells};
 ghost use Rattle.std.specs.Prelude.{◌≡◌, true};
 
@@ -15,12 +15,7 @@ use dude_base::write_list::WriteList;
 pub(crate) fn stored_under(writes: &WriteList, stored: &Numbers, z: &Setup, lock: u64) -> bool
     ensures { Tells result (IsStoredUnder z.now writes.now stored.now lock) }
 {
-    for k in 0..writes.len() {
-        if !is_stored_under(writes.get(k).at, stored, z, lock) {
-            return false;
-        }
-    }
-    true
+    all_pass(writes, |at| is_stored_under(at, stored, z, lock))
 }
 
 fn is_stored_under(at: u64, stored: &Numbers, z: &Setup, lock: u64) -> bool
@@ -33,18 +28,26 @@ fn is_stored_under(at: u64, stored: &Numbers, z: &Setup, lock: u64) -> bool
 pub(crate) fn settled_in(writes: &WriteList, stored: &Numbers, touched: &Numbers, page: u64) -> bool
     ensures { Tells result (IsSettledIn writes.now stored.now touched.now page) }
 {
-    for k in 0..writes.len() {
-        if !is_settled(writes.get(k).at, stored, touched, page) {
-            return false;
-        }
-    }
-    true
+    all_pass(writes, |at| is_settled(at, stored, touched, page))
 }
 
 fn is_settled(at: u64, stored: &Numbers, touched: &Numbers, page: u64) -> bool
     ensures { Tells result (IsSettledAt stored.now touched.now page at) }
 {
     at / PAGE != page || (stored.has(at) && touched.has(page))
+}
+
+// Whether each word that is written passes.
+fn all_pass<F: Fn(u64) -> bool>(writes: &WriteList, passes: F) -> bool
+    requires { F.IsAlwaysCallable passes }
+    ensures { AnswersEach (λ at b. F.post passes at b) writes.now result }
+{
+    for k in 0..writes.len() {
+        if !passes(writes.get(k).at) {
+            return false;
+        }
+    }
+    true
 }
 
 /// Whether a word of the page is written.

@@ -1,8 +1,11 @@
-use Rattle.dude_core.proofs.StoreLists.{told_at, not_told}
+use Rattle.std.proofs.Common.{[], ◌∷◌, rules, tests}
+use Rattle.std.proofs.lemmas.Iterator.{YieldsList-from_slice, cases_from_any}
+use Rattle.pmem_trait.specs.declared.call.Call.{Call}
+use Rattle.pmem_trait.specs.Words.{IsIn}
+use Rattle.dude_core.specs.StoreData.{tells}
+use Rattle.dude_core.proofs.StoreLists.{any_told}
 use Rattle.dude_core.proofs.told.has_told.Goals as goal
 
-pub returns-then-tells_it : goal.returns-then-tells_it
-returns-then-tells_it c = told_at c.args.calls.now c.loop-k.k c.call_at-call.result c.loop-k-test.true c.call_at-call.ensures c.args.number c.if-tells_it.ensures
-
-pub loop-k-preserved : goal.loop-k-preserved
-loop-k-preserved c = not_told c.args.calls.now c.loop-k.k c.call_at-call.result c.loop-k-test.true c.call_at-call.ensures c.args.number c.loop-k.invariant c.if-tells_it.ensures
+pub returns : goal.returns
+returns c = any_told c.args.number c.args.calls.now c.any.result
+    (cases_from_any _ _ c.any.result (λ (x : Call). IsIn c.args.number (tells (x ∷ []))) (λ (x : Call). IsIn c.args.number (tells (x ∷ [])) → ⊥) c.any.ensures.ran (YieldsList-from_slice c.args.calls.now cc) (λ x q k. search (rules, tests)) (λ x q k. search (rules, tests)))

@@ -1,9 +1,0 @@
-use Rattle.std.proofs.Common.{◌≡◌, ◌++◌, take}
-use Rattle.dude_core.proofs.chain_writes.take_bundle.Given as goal
-
--- the writes gone over so far were taken
-abbrev pub invariant-loop-k : goal.invariant-loop-k
-invariant-loop-k l = record {
-  taken : l.out.taken ≡ l.fn.out.taken ++ take l.k l.bundle.writes;
-  room : l.out.room ≡ l.fn.out.room;
-}
