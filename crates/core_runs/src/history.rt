@@ -6,6 +6,7 @@ ghost use Rattle.std.specs.Prelude.{◌≡◌, OnOk};
 use crate::trouble::{Trouble, expect};
 use core_table::event_table::Seat;
 use core_table::foreseen::law_of_foreseen;
+use core_table::served::Served;
 use core_table::slot_rule::AnySlots;
 use core_table::stm::Stm;
 use core_table::terms::Terms;
@@ -32,10 +33,16 @@ pub fn read(stm: &Small, seat: &mut Seat<(), ()>) -> Result<(), Trouble>
     requires { Stands stm.now.events seat.old looked }
     ensures { OnOk result (Stands stm.now.events seat.new read_out) }
 {
+    let served = Served {
+        file: 0,
+        index: 0,
+        request: &Request::Sync,
+        reply: &Reply::Durable,
+    };
     expect(stm.load(seat, 3, 0), 0)?;
     expect(stm.check(seat, 0), 0)?;
     expect(stm.unpin(seat, 0), 65_537)?;
-    expect(stm.finish(seat, 0, 0, &Request::Sync, &Reply::Durable), 2)
+    expect(stm.finish(seat, &served), 2)
 }
 
 /// Another transaction sees an empty box and pins the page.
@@ -57,10 +64,13 @@ pub fn own(stm: &Small, seat: &mut Seat<(), ()>, writes: &WriteList) -> Result<(
 {
     expect(stm.look(seat, 0), 0)?;
     expect(stm.take(seat, 0, 0, 0), 0)?;
-    expect(
-        stm.draw(seat, 0, 1, &Request::Sync, &Reply::Durable, writes),
-        0,
-    )?;
+    let served = Served {
+        file: 0,
+        index: 1,
+        request: &Request::Sync,
+        reply: &Reply::Durable,
+    };
+    expect(stm.draw(seat, &served, writes), 0)?;
     expect(stm.decide(seat, 0), 1)
 }
 

@@ -7,6 +7,7 @@ ghost use Rattle.std.specs.Prelude.{◌≡◌, OnOk};
 use crate::history::Small;
 use crate::trouble::{Trouble, expect};
 use core_table::event_table::Seat;
+use core_table::served::Served;
 use tatp_model::reply::Reply;
 use tatp_model::request::Request;
 
@@ -20,7 +21,13 @@ pub fn give_back(stm: &Small, seat: &mut Seat<(), ()>) -> Result<(), Trouble>
     expect(stm.look(seat, 0), 0)?;
     expect(stm.take(seat, 0, 0, 0), 0)?;
     stm.restore(seat, 0, 0);
-    expect(stm.finish(seat, 0, 0, &Request::Sync, &Reply::Durable), 1)
+    let served = Served {
+        file: 0,
+        index: 0,
+        request: &Request::Sync,
+        reply: &Reply::Durable,
+    };
+    expect(stm.finish(seat, &served), 1)
 }
 
 /// The thread takes the turn and makes a page absent.

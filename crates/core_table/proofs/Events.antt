@@ -12,12 +12,15 @@ use Rattle.core_events.specs.Conditions.{May, IsAllowed, after}
 use Rattle.core_events.specs.Telling.{IsInside, IsTold}
 use Rattle.core_events.proofs.Lists.{set_again, at_map}
 use Rattle.core_events.proofs.Keeps.{event_keeps}
-use Rattle.core_events.proofs.Telling.{kept_sized, kept_seated, word_inside, tells}
+use Rattle.core_events.proofs.Telling.{added, kept_sized, kept_seated, subtracted, word_inside, tells}
 use Rattle.atomic_table.specs.Seated.{TableId}
 use Rattle.atomic_table.specs.declared.shared.Seat.{Seat}
+use Rattle.core_table.specs.Changes.{changed}
+use Rattle.core_table.specs.declared.change.Change.{Change}
+use Rattle.core_table.specs.declared.change.Change.TheVariants.{Exchange, Add, Subtract, Raise}
 use Rattle.core_table.specs.Places.{index, count}
 use Rattle.core_table.specs.Layout.{TableSight}
-use Rattle.core_table.specs.Steps.{Does, Puts, Rests, MayAct, IsForeseen, StepsAt, MayStepAt, IsBlind}
+use Rattle.core_table.specs.Steps.{Does, Puts, Rests, MayAct, IsForeseen, StepsAt, MayStepAt, IsBlind, WordChanges}
 use Rattle.core_table.specs.Known.{Known, view_of, beside_of, known_after}
 use Rattle.core_table.specs.Rules.{Holds, Outlasts, Foreseen, Acts}
 use Rattle.core_table.proofs.Flat.{flat_found, flat_put, placed}
@@ -83,6 +86,13 @@ module _ {K : Type 0} (setup_of : K → Setup) (t : TableSight K) (key : K) (id 
 
   pub setup_of_key : setup_of t.key ≡ t.setup
   setup_of_key = ap setup_of (sym key_of) ∙ ap (λ (u : TableSight K). u.setup) same
+
+-- a change makes what the event says, of each number that it may find
+pub changes : {S X K : Type 0} (t : TableSight K) (e : Event) (s : Seat S (Known X)) (x : Change) → WordChanges t e s x → (n : ℕ) → n < 2 ^ 64 → IsTold t.setup e s.me.0.view n → changed x n ≡ word_after e s.me.0.view n
+changes t e s (Exchange from to) word n _ told = sym (word n told)
+changes t e s (Add more) word n _ told = let w = word n told in added n more w.1 ∙ sym w.0
+changes t e s (Subtract less) word n small told = let w = word n told in subtracted n less w.1 w.2 small ∙ sym w.0
+changes t e s (Raise least) word n _ told = sym (word n told)
 
 -- what a step on a table owes, in the words of its contract
 module _ {S X K : Type 0} (setup_of : K → Setup) (fact_of : K → State → List X → List (Option S) → Type 0) (t : TableSight K) (key : K) (id : TableId) (same : record { id = id; key = key; setup = setup_of key } ≡ t) (wide : id.words ≡ count (setup_of key)) where

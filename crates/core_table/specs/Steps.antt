@@ -1,6 +1,7 @@
 -- What a step asks of its seat, and what it tells.
-use Rattle.std.specs.Prelude.{◌≡◌, ℕ, ◌+◌, ◌-◌, ◌^◌, ◌<◌, ◌≤◌, List, [], ◌∷◌, map}
+use Rattle.std.specs.Prelude.{◌≡◌, ℕ, ◌+◌, ◌-◌, ◌^◌, ◌<◌, ◌≤◌, ◌==◌, max, List, [], ◌∷◌, map}
 use mathlib.Core.Option.{Option, some}
+use prog.Atomic.{either}
 use Rattle.atomic_table.specs.Table.{Me, Final, Seen, rest}
 use Rattle.atomic_table.specs.declared.shared.Seat.{Seat}
 use Rattle.core_events.specs.Setups.{Setup, IsSetup}
@@ -9,6 +10,8 @@ use Rattle.core_events.specs.Events.{Event, name, word_after, view_after}
 use Rattle.core_events.specs.Conditions.{May}
 use Rattle.core_events.specs.Partings.{newcomer, start}
 use Rattle.core_events.specs.Telling.{IsSeated, IsTold}
+use Rattle.core_table.specs.declared.change.Change.{Change}
+use Rattle.core_table.specs.declared.change.Change.TheVariants.{Exchange, Add, Subtract, Raise}
 use Rattle.core_table.specs.Known.{Known, known_with, known_after}
 use Rattle.core_table.specs.Layout.{TableSight, IsSmall, IsSameStart}
 use Rattle.core_table.specs.Places.{index, count}
@@ -74,6 +77,13 @@ module _ {S X K : Type 0} (t : TableSight K) (e : Event) (s : Seat S (Known X)) 
   -- it becomes less by so much, and had as much
   abbrev pub WordFalls : ℕ → Type 0
   WordFalls less = (n : ℕ) → IsTold t.setup e s.me.0.view n → (word_after e s.me.0.view n ≡ n - less) × (0 < less) × (less ≤ n)
+
+  -- the change makes this of it
+  abbrev pub WordChanges : Change → Type 0
+  WordChanges (Exchange from to) = WordBecomes (λ n. either (n == from) to n)
+  WordChanges (Add more) = WordRises more
+  WordChanges (Subtract less) = WordFalls less
+  WordChanges (Raise least) = WordBecomes (λ n. max n least)
 
   -- what becomes of the view is the same whatever number was found
   abbrev pub IsBlind : Type 0

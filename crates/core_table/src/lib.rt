@@ -3,6 +3,7 @@
 //! name.
 #![tactic(auto)]
 
+pub mod change;
 pub mod choice;
 mod closing;
 pub mod cut;
@@ -17,6 +18,7 @@ pub mod places;
 pub mod plays;
 mod reading;
 pub mod seat_moves;
+pub mod served;
 mod sizes;
 pub mod slot_choice;
 pub mod slot_rule;

@@ -5,6 +5,7 @@ ghost use Rattle.core_events.specs.Keyed.{find};
 ghost use Rattle.core_table.specs.Steps.{MayStep, IsForeseen, StepFinds, StepMakes};
 ghost use Rattle.std.specs.Prelude.{◌≡◌, Some};
 
+use crate::change::Change;
 use crate::event_table::Seat;
 use crate::places::ENTRY;
 use crate::slot_rule::SlotRule;
@@ -36,8 +37,9 @@ impl<S, X, K, P: SlotRule<S, X, K>> Stm<S, X, K, P> {
         requires may { MayStep P.fact self.now.events (touch page) seat.old }
         ensures { StepMakes self.now.events (touch page) seat.old seat.new }
     {
+        let touched = Change::Raise { least: number };
         self.events
-            .raise_as::<Brand, u64>(seat, self.events.touch_place(page), number, &page);
+            .change_as::<Brand, u64>(seat, self.events.touch_place(page), touched, &page);
     }
 
     /// Pins a page, whose entry was `kept`.
@@ -48,9 +50,12 @@ impl<S, X, K, P: SlotRule<S, X, K>> Stm<S, X, K, P> {
     {
         let place = self.events.entry_place(page);
         // Where the word is `kept`, it is the entry of a frame, and far from wrapping.
-        let pinned = kept.wrapping_add(1);
+        let pinned = Change::Exchange {
+            from: kept,
+            to: kept.wrapping_add(1),
+        };
         self.events
-            .exchange_as::<Brand, u64>(seat, place, kept, pinned, &page)
+            .change_as::<Brand, u64>(seat, place, pinned, &page)
     }
 
     /// Takes the pin of a page back.
@@ -58,8 +63,9 @@ impl<S, X, K, P: SlotRule<S, X, K>> Stm<S, X, K, P> {
         requires may { MayStep P.fact self.now.events (unpin page) seat.old }
         ensures { StepFinds self.now.events (unpin page) seat.old seat.new result }
     {
+        let unpinned = Change::Subtract { less: 1 };
         self.events
-            .subtract_as::<Brand, u64>(seat, self.events.entry_place(page), 1, &page)
+            .change_as::<Brand, u64>(seat, self.events.entry_place(page), unpinned, &page)
     }
 
     /// Makes a page absent, whose entry was `kept`, unless it is pinned.
@@ -70,8 +76,12 @@ impl<S, X, K, P: SlotRule<S, X, K>> Stm<S, X, K, P> {
     {
         let place = self.events.entry_place(page);
         let unpinned = kept / ENTRY * ENTRY;
+        let absent = Change::Exchange {
+            from: unpinned,
+            to: 0,
+        };
         self.events
-            .exchange_as::<Brand, u64>(seat, place, unpinned, 0, &page)
+            .change_as::<Brand, u64>(seat, place, absent, &page)
     }
 
     /// Stores a home word of an absent page in a free frame.

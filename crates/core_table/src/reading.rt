@@ -7,13 +7,13 @@ ghost use Rattle.core_table.specs.Abouts.{finishing};
 ghost use Rattle.core_table.specs.Steps.{MayStep, StepFinds};
 ghost use Rattle.std.specs.Prelude.{◌≡◌, Some};
 
+use crate::change::Change;
 use crate::event_table::Seat;
 use crate::places::{CLOCK, THREADS};
+use crate::served::Served;
 use crate::slot_rule::SlotRule;
 use crate::stm::Stm;
 use std::marker::Brand;
-use tatp_model::reply::Reply;
-use tatp_model::request::Request;
 
 impl<S, X, K, P: SlotRule<S, X, K>> Stm<S, X, K, P> {
     /// Draws a number for the thread of this seat.
@@ -21,7 +21,8 @@ impl<S, X, K, P: SlotRule<S, X, K>> Stm<S, X, K, P> {
         requires may { MayStep P.fact self.now.events number seat.old }
         ensures { StepFinds self.now.events number seat.old seat.new result }
     {
-        self.events.add_as::<Brand, ()>(seat, THREADS, 1, &())
+        self.events
+            .change_as::<Brand, ()>(seat, THREADS, Change::Add { more: 1 }, &())
     }
 
     /// Begins a transaction at the clock, its snapshot.
@@ -69,24 +70,10 @@ impl<S, X, K, P: SlotRule<S, X, K>> Stm<S, X, K, P> {
     }
 
     /// Ends a transaction that drew no number. The request and its reply go into its entry.
-    pub fn finish(
-        &self,
-        seat: &mut Seat<S, X>,
-        file: u64,
-        index: u64,
-        request: &Request,
-        reply: &Reply,
-    ) -> u64
-        requires may { MayStep P.fact self.now.events
-            (finishing file index request.now reply.now) seat.old }
-        ensures { StepFinds self.now.events
-            (finishing file index request.now reply.now) seat.old seat.new result }
+    pub fn finish(&self, seat: &mut Seat<S, X>, served: &Served) -> u64
+        requires may { MayStep P.fact self.now.events (finishing served.now) seat.old }
+        ensures { StepFinds self.now.events (finishing served.now) seat.old seat.new result }
     {
-        self.events
-            .load_as::<Brand, (u64, u64, &Request, &Reply)>(
-                seat,
-                THREADS,
-                &(file, index, request, reply),
-            )
+        self.events.load_as::<Brand, Served>(seat, THREADS, served)
     }
 }

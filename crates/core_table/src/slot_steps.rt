@@ -2,11 +2,13 @@
 //! change of a slot that a seat took.
 
 ghost use Rattle.atomic_table.specs.Table.{rest};
-ghost use Rattle.core_table.specs.Steps.{MayAct, IsForeseen, StepsAt, WordBecomes, WordRises, IsSameSeat, HasSlot};
-ghost use Rattle.std.specs.Prelude.{◌≡◌, ◌==◌, ◌∷◌};
-ghost use prog.Atomic.{either};
+ghost use Rattle.core_table.specs.Steps.{MayAct, IsForeseen, StepsAt, WordBecomes, WordChanges, IsSameSeat, HasSlot};
+ghost use Rattle.std.specs.Prelude.{◌≡◌, ◌∷◌};
 
+use crate::change::{Change, change_word};
 use crate::event_table::{EventTable, Seat};
+use crate::known::Known;
+use crate::law::Law;
 use crate::plays::{DoesWithSlots, PutsWithSlots};
 use crate::slot_choice::SlotChoice;
 use crate::slot_rule::SlotRule;
@@ -49,45 +51,24 @@ impl<S, X, K, P: SlotRule<S, X, K>> EventTable<S, X, K, P> {
             .store::<PutsWithSlots<E>>(seat, place, new)
     }
 
-    /// A compare-exchange that is the event of `E`.
-    pub fn exchange_by<E: SlotChoice<S, X>, T>(
+    /// A change of the word found that is the event of `E`.
+    #[inline(always)]
+    pub fn change_by<E: SlotChoice<S, X>, T>(
         &self,
         seat: &mut Seat<S, X>,
         place: usize,
-        old: u64,
-        new: u64,
+        form: Change,
         _about: &T,
     ) -> u64
+        requires word { WordChanges self.now E.event seat.old form }
         requires at { StepsAt self.now E.event seat.old E.setup place }
         requires may { MayAct P.fact self.now E.event seat.old E.then }
         requires fits { IsForeseen P.fact self.now E.event seat.old }
-        requires word { WordBecomes self.now E.event seat.old (λ n. either (n == old) new n) }
         ensures seat { IsSameSeat seat.old seat.new }
         ensures then { E.then result seat.new.me }
     {
-        self.table
-            .shared
-            .compare_exchange::<DoesWithSlots<E>>(seat, place, old, new)
-    }
-
-    /// An addition that is the event of `E`. It doesn't wrap.
-    pub fn add_by<E: SlotChoice<S, X>, T>(
-        &self,
-        seat: &mut Seat<S, X>,
-        place: usize,
-        more: u64,
-        _about: &T,
-    ) -> u64
-        requires at { StepsAt self.now E.event seat.old E.setup place }
-        requires may { MayAct P.fact self.now E.event seat.old E.then }
-        requires fits { IsForeseen P.fact self.now E.event seat.old }
-        requires word { WordRises self.now E.event seat.old more }
-        ensures seat { IsSameSeat seat.old seat.new }
-        ensures then { E.then result seat.new.me }
-    {
-        self.table
-            .shared
-            .fetch_add::<DoesWithSlots<E>>(seat, place, more)
+        let table = &self.table.shared;
+        change_word::<S, Known<X>, K, Law<P>, DoesWithSlots<E>>(table, seat, place, form)
     }
 
     /// Puts a value in the slot that the seat took last, and gives the one that was there.

@@ -4,6 +4,7 @@ ghost use Rattle.core_events.specs.Events.{empty_box, give_turn, post, raise_dur
 ghost use Rattle.core_table.specs.Steps.{MayStep, IsForeseen, StepFinds, StepMakes};
 ghost use Rattle.std.specs.Prelude.{◌≡◌, Some};
 
+use crate::change::Change;
 use crate::event_table::Seat;
 use crate::places::{DURABLE, REPRODUCED, TURN};
 use crate::slot_rule::SlotRule;
@@ -40,8 +41,11 @@ impl<S, X, K, P: SlotRule<S, X, K>> Stm<S, X, K, P> {
         requires may { MayStep P.fact self.now.events take_turn seat.old }
         ensures { StepFinds self.now.events take_turn seat.old seat.new result }
     {
-        self.events
-            .exchange_as::<Brand, ()>(seat, TURN, 0, thread + 1, &())
+        let had = Change::Exchange {
+            from: 0,
+            to: thread + 1,
+        };
+        self.events.change_as::<Brand, ()>(seat, TURN, had, &())
     }
 
     /// Gives the turn back; `failed` says whether it met a fault.

@@ -8,14 +8,14 @@ ghost use Rattle.core_table.specs.Steps.{MayStep, StepFinds, StepMakes};
 ghost use Rattle.dude_base.specs.Writes.{written};
 ghost use Rattle.std.specs.Prelude.{◌≡◌, ◌<◌, Some};
 
+use crate::change::Change;
 use crate::event_table::Seat;
 use crate::places::CLOCK;
+use crate::served::Served;
 use crate::slot_rule::SlotRule;
 use crate::stm::Stm;
 use dude_base::write_list::WriteList;
 use std::marker::Brand;
-use tatp_model::reply::Reply;
-use tatp_model::request::Request;
 
 impl<S, X, K, P: SlotRule<S, X, K>> Stm<S, X, K, P> {
     /// Takes a lock, whose word at the last look was `seen`.
@@ -25,37 +25,23 @@ impl<S, X, K, P: SlotRule<S, X, K>> Stm<S, X, K, P> {
         requires may { MayStep P.fact self.now.events (take lock) seat.old }
         ensures { StepFinds self.now.events (take lock) seat.old seat.new result }
     {
-        self.events.exchange_as::<Brand, u64>(
-            seat,
-            self.events.lock_place(lock),
-            seen,
-            2 * thread + 1,
-            &lock,
-        )
+        let owned = Change::Exchange {
+            from: seen,
+            to: 2 * thread + 1,
+        };
+        self.events
+            .change_as::<Brand, u64>(seat, self.events.lock_place(lock), owned, &lock)
     }
 
     /// Draws the number behind the one found, for these writes.
-    pub fn draw(
-        &self,
-        seat: &mut Seat<S, X>,
-        file: u64,
-        index: u64,
-        request: &Request,
-        reply: &Reply,
-        writes: &WriteList,
-    ) -> u64
-        requires may { MayStep P.fact self.now.events
-            (drawing file index request.now reply.now writes.now) seat.old }
-        ensures { StepFinds self.now.events
-            (drawing file index request.now reply.now writes.now) seat.old seat.new result }
+    pub fn draw(&self, seat: &mut Seat<S, X>, served: &Served, writes: &WriteList) -> u64
+        requires may { MayStep P.fact self.now.events (drawing served.now writes.now) seat.old }
+        ensures { StepFinds self.now.events (drawing served.now writes.now)
+            seat.old seat.new result }
     {
+        let next = Change::Add { more: 1 };
         self.events
-            .add_as::<Brand, (u64, u64, &Request, &Reply, &WriteList)>(
-                seat,
-                CLOCK,
-                1,
-                &(file, index, request, reply, writes),
-            )
+            .change_as::<Brand, (&Served, &WriteList)>(seat, CLOCK, next, &(served, writes))
     }
 
     /// Decides the number, by a load of the lock that was taken last.

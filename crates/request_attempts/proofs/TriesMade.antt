@@ -23,8 +23,8 @@ use Rattle.request_attempts.specs.declared.tried.Tried.TheVariants.{Done, Again,
 use Rattle.request_attempts.specs.Counting.{LAST_COUNT, RisesBy}
 use Rattle.request_attempts.specs.Served.{HasServed}
 use Rattle.request_attempts.specs.AfterOnce.{HasStopped, WasLost, CountsEntry}
-use Rattle.request_attempts.specs.Turns.{HasFailed, HasFetched, HasPumped, KeepsRest, WasRefused}
-use Rattle.request_attempts.specs.Tries.{IsServing, IsUnserved, IsAgain, HasGained, AnswersAtOnce, AnswersBy, AfterFull, AfterLost, AfterOut, AfterStop, AfterTry}
+use Rattle.request_attempts.specs.Turns.{HasFailed, HasFetched, HasPumped, KeepsPass, KeepsRest, WasRefused}
+use Rattle.request_attempts.specs.Tries.{IsServing, IsUnserved, IsAgain, HasGained, AnswersAtOnce, AnswersBy, AfterFull, AfterOut, AfterStop, AfterTry, stop_for}
 
 bit_few : (b : Bool) → bit b ≤ 1
 bit_few true = omega arith
@@ -64,31 +64,32 @@ module _ {X K : Type 0} (t : TableSight K) (p m r : PassSight X) where
   -- one that counts a refusal for itself, and nothing behind it
   again_same : (used : ℕ) → IsBare used 1 p m → IsResting t m → IsAgain t p m
   again_same used b rests = record {
-    rests = rests;
-    part = b.part;
-    entries = b.entries;
-    last = b.last;
+    pass = record { rests = rests; part = b.part; entries = b.entries; last = b.last; rises = b.rises; durable = (let d = b.durable in omega arith) };
     no_fault = b.no_fault;
-    rises = b.rises;
-    durable = (let d = b.durable in omega arith);
     draws = record { used = used; draws = b.draws; few = b.few };
     counts = ⊎_elim (λ n. inr ((let f = b.few in omega arith), one_more p.numbers.refused m.numbers.refused p.numbers.had_turn m.numbers.had_turn (omega arith))) (λ l. inl l) b.counts;
   }
 
   -- a turn behind it keeps the durable number
   kept_bare : (used k : ℕ) → IsBare used k p m → KeepsRest t m r → p.numbers.durable ≤ r.numbers.durable
-  kept_bare used k b c = let d = b.durable in let e = c.durable in omega arith
+  kept_bare used k b c = let d = b.durable in let e = c.pass.durable in omega arith
+
+  -- and so all that a try keeps
+  kept_pass : (used k : ℕ) → IsBare used k p m → KeepsRest t m r → KeepsPass t p r
+  kept_pass used k b c = record {
+    rests = c.pass.rests;
+    part = c.pass.part ∙ b.part;
+    entries = c.pass.entries ∙ b.entries;
+    last = c.pass.last ∙ b.last;
+    rises = (let a = b.rises in let e = c.pass.rises in omega arith);
+    durable = kept_bare used k b c;
+  }
 
   -- and a turn behind it
   again_turned : (used : ℕ) → IsBare used 1 p m → HasGained t m r → IsAgain t p r
-  again_turned used b g = let c = g.keeps.rises in record {
-    rests = g.keeps.rests;
-    part = g.keeps.part ∙ b.part;
-    entries = g.keeps.entries ∙ b.entries;
-    last = g.keeps.last ∙ b.last;
+  again_turned used b g = let c = g.keeps.pass.rises in record {
+    pass = kept_pass used 1 b g.keeps;
     no_fault = g.no_fault ∙ b.no_fault;
-    rises = (let a = b.rises in omega arith);
-    durable = kept_bare used 1 b g.keeps;
     draws = record { used = used; draws = ap (λ (n : ℕ). n + used) g.keeps.left ∙ b.draws; few = b.few };
     counts = ⊎_elim (λ n. inr ((let f = b.few in omega arith), one_more p.numbers.refused r.numbers.refused p.numbers.had_turn r.numbers.had_turn (omega arith))) (λ l. inl (omega arith)) b.counts;
   }
@@ -115,9 +116,9 @@ module _ {X K : Type 0} (t : TableSight K) (p m r : PassSight X) where
   unserved : (k : ℕ) → IsBare 0 k p m → HasFailed t m r → IsUnserved 0 t p r × (r.numbers.met_fault ≡ true)
   unserved k b f = (
     record {
-      rests = f.keeps.rests;
-      part = f.keeps.part ∙ b.part;
-      entries = f.keeps.entries ∙ b.entries;
+      rests = f.keeps.pass.rests;
+      part = f.keeps.pass.part ∙ b.part;
+      entries = f.keeps.pass.entries ∙ b.entries;
       draws = record { used = 0; draws = ap (λ (n : ℕ). n + 0) f.keeps.left ∙ b.draws; few = omega arith };
       durable = kept_bare 0 k b f.keeps;
     },
@@ -162,15 +163,10 @@ module _ {X K : Type 0} (t : TableSight K) (seen : ℕ) (p m : PassSight X) (sma
       (λ b0. let b = full_bare false b0 in
       let less : 2 * p.numbers.refused + bit p.numbers.had_turn ≡ 2 * p.numbers.refused + 0 = ap (λ (x : Bool). 2 * p.numbers.refused + bit x) b0 in
       let a = b.rises in
-      let c = g.keeps.rises in
+      let c = g.keeps.pass.rises in
       record {
-        rests = g.keeps.rests;
-        part = g.keeps.part ∙ b.part;
-        entries = g.keeps.entries ∙ b.entries;
-        last = g.keeps.last ∙ b.last;
+        pass = kept_pass t p m r 0 0 b g.keeps;
         no_fault = g.no_fault ∙ b.no_fault;
-        rises = omega arith;
-        durable = kept_bare t p m r 0 0 b g.keeps;
         draws = record { used = 0; draws = ap (λ (n : ℕ). n + 0) g.keeps.left ∙ b.draws; few = omega arith };
         counts = ⊎_elim (λ l. inl l) (λ gain. ⊎_elim
             (λ lt. inr (omega arith, omega arith))
@@ -223,6 +219,12 @@ module _ {X K : Type 0} (t : TableSight K) (e : Stop) (p m : PassSight X) (small
           (record { rests = h.rests; part = h.part; entries = h.entries; draws = record { used = 0; draws = stop_bare.draws; few = omega arith }; durable = (let d = stop_bare.durable in omega arith) }, stop_bare.no_fault))
 
 -- ---- a commit that was lost
+-- it has a page that is out where its Stop has
+pub lost_out : (l : Lost) (page : ℕ) → stop_for l ≡ stop.Out page → l ≡ lost.Out page
+lost_out (lost.Out p) page e = let same : p ≡ page = cc in ap (λ (n : ℕ). lost.Out n) same
+lost_out (lost.Busy p seen) page e = absurd (let no : ⊥ = cc in no)
+lost_out (lost.Conflict lock seen n) page e = absurd (let no : ⊥ = cc in no)
+
 module _ {X K : Type 0} (t : TableSight K) (p m : PassSight X) (small : up_to_last p.numbers.refused ≡ p.numbers.refused) (left : 0 < p.numbers.left) where
   -- the commit counts one
   one_and : (k : ℕ) → up_to_last (up_to_last (p.numbers.refused + 1) + k) ≡ up_to_last (p.numbers.refused + (1 + k))
@@ -234,7 +236,7 @@ module _ {X K : Type 0} (t : TableSight K) (p m : PassSight X) (small : up_to_la
   lost_number : (k number : ℕ) → m.numbers ≡ with_refusals k (with_refusals 1 (after_draw number t.setup.boxes p.numbers)) → (pass_view m).part ≡ (pass_view p).part → (pass_view m).entries ≡ (pass_view p).entries → IsBare 1 1 p m
   lost_number k number is part entries = fewer t p m m 1 (1 + k) 1 (omega arith) (drew_bare p m small 1 (1 + k) (with_refusals k (with_refusals 1 (after_draw number t.setup.boxes p.numbers))) (omega arith) part entries is refl refl (omega arith) refl (one_and k))
 
-  pub lost_try : (l : Lost) (s : Sizes) (file index : ℕ) (q : Request) (x : Tried) (r : PassSight X) → WasLost t l p m → AfterLost t l x m r → AfterTry t s file index q x p r
+  pub lost_try : (l : Lost) (s : Sizes) (file index : ℕ) (q : Request) (x : Tried) (r : PassSight X) → WasLost t l p m → AfterStop t (stop_for l) x m r → AfterTry t s file index q x p r
   lost_try (lost.Out page) s file index q x r h a = out_try t page p m (lost_page h.refusals h.numbers h.part h.entries) s file index q x r a
   lost_try (lost.Busy page seen) s file index q x r h a = at_once t p m r 0 (lost_page h.refusals h.numbers h.part h.entries) h.rests s file index q x a
   lost_try (lost.Conflict lock seen n) s file index q x r h a = at_once t p m r 1 (lost_number h.refusals n h.numbers h.part h.entries) h.rests s file index q x a
@@ -255,13 +257,8 @@ module _ {X K : Type 0} (t : TableSight K) (p r : PassSight X) (small : up_to_la
   -- a turn that counted a refusal
   turn_again : KeepsRest t p r → r.numbers.met_fault ≡ p.numbers.met_fault → r.numbers.refused ≡ up_to_last (p.numbers.refused + 1) → IsAgain t p r
   turn_again k no_fault is = record {
-    rests = k.rests;
-    part = k.part;
-    entries = k.entries;
-    last = k.last;
+    pass = k.pass;
     no_fault = no_fault;
-    rises = k.rises;
-    durable = k.durable;
     draws = record { used = 0; draws = ap (λ (n : ℕ). n + 0) k.left ∙ none; few = omega arith };
     counts = ⊎_elim (λ n. inr (omega arith, one_more p.numbers.refused r.numbers.refused p.numbers.had_turn r.numbers.had_turn (omega arith))) (λ l. inl l) (counts_of p r small 1 is);
   }

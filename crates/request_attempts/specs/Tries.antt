@@ -16,7 +16,7 @@ use Rattle.request_attempts.specs.declared.tried.Tried.{Tried}
 use Rattle.request_attempts.specs.declared.tried.Tried.TheVariants.{Done, Again, Device, NoMemory}
 use Rattle.request_attempts.specs.Counting.{LAST_COUNT, PATIENCE, RisesBy}
 use Rattle.request_attempts.specs.Served.{HasServed}
-use Rattle.request_attempts.specs.Turns.{HasFailed, HasFetched, HasPumped, KeepsRest, WasRefused}
+use Rattle.request_attempts.specs.Turns.{HasFailed, HasFetched, HasPumped, KeepsPass, KeepsRest, WasRefused}
 
 -- A `SYNC` was answered with a durable number that is at least each one of the pass
 pub record HasSynced {X K : Type 0} (t : TableSight K) (file index : ℕ) (q : Request) (p r : PassSight X) (d : DoneOf) : Type 0 where
@@ -61,26 +61,16 @@ pub record IsGivenUp {X K : Type 0} (t : TableSight K) (p r : PassSight X) : Typ
 
 -- A try that made no entry and is to be made again
 pub record IsAgain {X K : Type 0} (t : TableSight K) (p r : PassSight X) : Type 0 where
-  pub rests : IsResting t r
-  pub part : (pass_view r).part ≡ (pass_view p).part
-  pub entries : (pass_view r).entries ≡ (pass_view p).entries
-  pub last : r.numbers.last ≡ p.numbers.last
+  pub pass : KeepsPass t p r
   pub no_fault : r.numbers.met_fault ≡ p.numbers.met_fault
-  pub rises : p.numbers.refused ≤ r.numbers.refused
-  pub durable : p.numbers.durable ≤ r.numbers.durable
   pub draws : DrawsUpTo 1 p r
   -- it counts a refusal, or the pass has had a turn by it; each number that it drew counts one
   pub counts : (LAST_COUNT ≤ r.numbers.refused) ⊎ ((p.numbers.refused + draws.used ≤ r.numbers.refused) × (2 * p.numbers.refused + bit p.numbers.had_turn < 2 * r.numbers.refused + bit r.numbers.had_turn))
 
 -- So many tries were made again, and the request isn't given up yet
 pub record HasTried {X K : Type 0} (k : ℕ) (t : TableSight K) (p q : PassSight X) : Type 0 where
-  pub rests : IsResting t q
-  pub part : (pass_view q).part ≡ (pass_view p).part
-  pub entries : (pass_view q).entries ≡ (pass_view p).entries
-  pub last : q.numbers.last ≡ p.numbers.last
+  pub pass : KeepsPass t p q
   pub no_fault : q.numbers.met_fault ≡ p.numbers.met_fault
-  pub rises : p.numbers.refused ≤ q.numbers.refused
-  pub durable : p.numbers.durable ≤ q.numbers.durable
   -- so many numbers were drawn, each for a refusal, fewer than 64
   pub used : ℕ
   pub draws : q.numbers.left + used ≡ p.numbers.left
@@ -123,11 +113,11 @@ AfterStop t (stop.Busy page seen) tried p q = AnswersAtOnce Again tried p q
 AfterStop t stop.Wide tried p q = AnswersAtOnce Again tried p q
 AfterStop t stop.NoMemory tried p q = AnswersAtOnce NoMemory tried p q
 
--- what follows a commit that was lost; one that drew a number is tried again at once
-abbrev pub AfterLost : {X K : Type 0} → TableSight K → Lost → Tried → PassSight X → PassSight X → Type 0
-AfterLost t (lost.Out page) tried p q = AfterOut t page tried p q
-AfterLost t (lost.Busy page seen) tried p q = AnswersAtOnce Again tried p q
-AfterLost t (lost.Conflict lock seen n) tried p q = AnswersAtOnce Again tried p q
+-- the Stop whose consequences a commit has that was lost so
+abbrev pub stop_for : Lost → Stop
+stop_for (lost.Out page) = stop.Out page
+stop_for (lost.Busy page seen) = stop.Busy page seen
+stop_for (lost.Conflict lock seen n) = stop.Conflict lock seen
 
 -- what a try leaves, by how it ended
 abbrev pub AfterTry : {X K : Type 0} → TableSight K → Sizes → ℕ → ℕ → Request → Tried → PassSight X → PassSight X → Type 0

@@ -7,15 +7,19 @@ use Rattle.stm_transactions.specs.Passes.{PassSight, IsResting, pass_view}
 use Rattle.request_attempts.specs.declared.turn_fault.TurnFault.{TurnFault}
 use Rattle.request_attempts.specs.declared.turn_fault.TurnFault.TheVariants.{Refused, Fault}
 
--- The pass is whose it was; no entry and no draw is new, refusals only grow, and the durable number doesn't fall
-pub record KeepsRest {X K : Type 0} (t : TableSight K) (p q : PassSight X) : Type 0 where
+-- The pass is whose it was; no entry is new, refusals only grow, and the durable number doesn't fall
+pub record KeepsPass {X K : Type 0} (t : TableSight K) (p q : PassSight X) : Type 0 where
   pub rests : IsResting t q
   pub part : (pass_view q).part ≡ (pass_view p).part
   pub entries : (pass_view q).entries ≡ (pass_view p).entries
   pub last : q.numbers.last ≡ p.numbers.last
-  pub left : q.numbers.left ≡ p.numbers.left
   pub rises : p.numbers.refused ≤ q.numbers.refused
   pub durable : p.numbers.durable ≤ q.numbers.durable
+
+-- and no draw is new
+pub record KeepsRest {X K : Type 0} (t : TableSight K) (p q : PassSight X) : Type 0 where
+  pub pass : KeepsPass t p q
+  pub left : q.numbers.left ≡ p.numbers.left
 
 -- A pump was good, with this durable number. One under a number of the pass counts as a refusal
 pub record HasPumped {X K : Type 0} (t : TableSight K) (p q : PassSight X) (n : ℕ) : Type 0 where

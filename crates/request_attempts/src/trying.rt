@@ -2,7 +2,7 @@
 
 ghost use Rattle.request_attempts.specs.AfterOnce.{AfterOnce};
 ghost use Rattle.request_attempts.specs.MayTry.{MayTry};
-ghost use Rattle.request_attempts.specs.Tries.{AfterFull, AfterLost, AfterOut, AfterStop, AfterTry};
+ghost use Rattle.request_attempts.specs.Tries.{AfterFull, AfterOut, AfterStop, AfterTry, stop_for};
 ghost use Rattle.std.specs.Prelude.{◌≡◌, ◌<◌, ℕ, true, false};
 ghost use Rattle.stm_transactions.specs.Passes.{IsResting};
 ghost use Rattle.tatp_model.specs.OneThread.{is_sync};
@@ -29,6 +29,21 @@ fn is_sync_request(q: &Request) -> bool
     ensures { result ≡ is_sync q.now }
 {
     matches!(q, Request::Sync)
+}
+
+// The Stop whose consequences a commit has that was lost.
+fn stop_of(lost: Lost) -> Stop
+    ensures { result ≡ stop_for lost }
+{
+    match lost {
+        Lost::Out { page } => Stop::Out { page },
+        Lost::Busy { page, seen } => Stop::Busy { page, seen },
+        Lost::Conflict {
+            lock,
+            seen,
+            number: _,
+        } => Stop::Conflict { lock, seen },
+    }
 }
 
 impl<
@@ -78,24 +93,6 @@ impl<
             Stop::Conflict { lock: _, seen: _ } => Tried::Again,
             Stop::Busy { page: _, seen: _ } => Tried::Again,
             Stop::Wide => Tried::Again,
-        }
-    }
-
-    // What follows a commit that was lost.
-    fn after_lost(&self, p: &mut Pass<X>, lost: Lost) -> Tried
-        requires rests { IsResting self.now.stm.now.events p.old }
-        requires inside { (page : ℕ) → lost ≡ Lost.Out page
-            → page < self.now.stm.now.events.setup.pages }
-        ensures { AfterLost self.now.stm.now.events lost result p.old p.new }
-    {
-        match lost {
-            Lost::Out { page } => self.after_out(p, page),
-            Lost::Busy { page: _, seen: _ } => Tried::Again,
-            Lost::Conflict {
-                lock: _,
-                seen: _,
-                number: _,
-            } => Tried::Again,
         }
     }
 
@@ -154,7 +151,7 @@ impl<
             Once::Done(done) => Tried::Done(done),
             Once::Full(_) => self.after_full(p),
             Once::Stopped(stop) => self.after_stop(p, stop),
-            Once::Lost(lost) => self.after_lost(p, lost),
+            Once::Lost(lost) => self.after_stop(p, stop_of(lost)),
         }
     }
 

@@ -13,7 +13,8 @@ use Rattle.tatp_model.specs.declared.reply.Reply.TheVariants.{Durable}
 use Rattle.tatp_model.specs.declared.done.Done.{Done}
 use Rattle.tatp_model.specs.OneThread.{is_sync, IndexedRequest, indexed_request_of, indexed_requests_from, AllAreDone, HoldsPrefixes, IsPrefixOf}
 use Rattle.run_order.specs.Runs.{SyncsFollow}
-use Rattle.run_order.proofs.Elements.{contains_filter, filter_contains, first_or_other, other_among}
+use Rattle.tatp_model.proofs.SameElements.{first_or_other, other_among}
+use Rattle.run_order.proofs.Elements.{contains_filter, filter_contains}
 use Rattle.run_order.proofs.FileOrder.{indexed}
 use Rattle.run_order.proofs.Pairs.{pairs_nil, pairs_append}
 use Rattle.run_order.specs.Numbers.{FilesFollow, FollowsInFile}

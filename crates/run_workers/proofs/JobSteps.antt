@@ -37,7 +37,7 @@ module _ {X K : Type 0} (t : TableSight K) (s : Sizes) (requests : List Request)
   -- a turn was had or refused
   pub at_turned : new ≡ record old { pass = new.pass } → HasTurned t old.pass new.pass → IsAt t s requests index new
   at_turned is h = subst (λ (j : Job X). IsAt t s requests index j) (sym is) (record {
-    has_done = done_still t s old.file requests old.done.items old.pass at.has_done new.pass h.keeps.rests h.keeps.entries h.keeps.durable;
+    has_done = done_still t s old.file requests old.done.items old.pass at.has_done new.pass h.keeps.pass.rests h.keeps.pass.entries h.keeps.pass.durable;
     at = at.at;
     no_fault = h.no_fault ∙ at.no_fault;
     draws = (let w = at.draws in let l = h.keeps.left in omega arith);
@@ -46,12 +46,12 @@ module _ {X K : Type 0} (t : TableSight K) (s : Sizes) (requests : List Request)
 
   -- and the place is kept
   pub place_turned : (first : Job X) → KeepsPlace first old → new ≡ record old { pass = new.pass } → HasTurned t old.pass new.pass → KeepsPlace first new
-  place_turned first k is h = subst (λ (j : Job X). KeepsPlace first j) (sym is) (record { file = k.file; part = h.keeps.part ∙ k.part; room = k.room })
+  place_turned first k is h = subst (λ (j : Job X). KeepsPlace first j) (sym is) (record { file = k.file; part = h.keeps.pass.part ∙ k.part; room = k.room })
 
   -- a turn met a fault
   pub failed_at : (end : WorkEnd) → end ≡ Device → new ≡ record old { pass = new.pass } → HasFailed t old.pass new.pass → EndsAt t s requests end new
   failed_at end ends is h = subst (λ (j : Job X). EndsAt t s requests end j) (sym is) (record {
-    has_done = done_still t s old.file requests old.done.items old.pass at.has_done new.pass h.keeps.rests h.keeps.entries h.keeps.durable;
+    has_done = done_still t s old.file requests old.done.items old.pass at.has_done new.pass h.keeps.pass.rests h.keeps.pass.entries h.keeps.pass.durable;
     whole = λ e. absurd (let no : ⊥ = cc in no);
     set_aside = λ e. absurd (let no : ⊥ = cc in no);
     no_memory = λ e. absurd (let no : ⊥ = cc in no);

@@ -138,14 +138,14 @@ some_outlet : (outlets : List Outlet) (k : ℕ) → k < length outlets → Outle
 some_outlet [] k within = absurd (omega arith)
 some_outlet (o ∷ os) k within = o
 
-pub opened_first : {X : Type 0} (files : List (List Request)) (jobs : List (Job X)) (outlets : List Outlet) → AreOpen files jobs outlets → SendFirst jobs
-opened_first files jobs outlets h k d within =
+pub opened_first : {X : Type 0} {files : List (List Request)} {jobs : List (Job X)} {outlets : List Outlet} → AreOpen files jobs outlets → SendFirst jobs
+opened_first {files = files} {jobs = jobs} {outlets = outlets} h k d within =
     let a = h.jobs_count in let b = h.outlets_count in
     let o = some_outlet outlets k (omega arith) in
     opens_first (requests_of files k) (get_or jobs k d).outbox (get_or outlets k o) (get_or jobs k d).done.items (h.each k d o (omega arith))
 
-pub opened_same : {X : Type 0} (files : List (List Request)) (jobs js : List (Job X)) (outlets os : List Outlet) → js ≡ jobs → os ≡ outlets → AreOpen files jobs outlets → AreOpen files js os
-opened_same files jobs js outlets os p q h = subst (λ (l : List (Job _)). AreOpen files l os) (sym p) (subst (λ (l : List Outlet). AreOpen files jobs l) (sym q) h)
+pub opened_same : {X : Type 0} {files : List (List Request)} {jobs js : List (Job X)} {outlets os : List Outlet} → js ≡ jobs → os ≡ outlets → AreOpen files jobs outlets → AreOpen files js os
+opened_same {files = files} {jobs = jobs} {os = os} p q h = subst (λ (l : List (Job _)). AreOpen files l os) (sym p) (subst (λ (l : List Outlet). AreOpen files jobs l) (sym q) h)
 
 -- ---- behind the work
 lane_still : (requests : List Request) (old new : Option Outbox) (from now : Outlet) → OpensTo requests old from → IsSameLane old new → IsSameDrain from.drain now.drain → IsLaneOf new now
@@ -177,9 +177,9 @@ own t files s jobs h k m d within is =
     let all = of_file j.file j.done.items (enumerate_from 0 (take (length j.done.items) (requests_of files j.file))) (h.each k d within).has_done.first in
     subst (λ (n : ℕ). All (λ (x : Done). x.file ≡ n) j.done.items) (at ∙ sym is) all
 
-module _ {X : Type 0} (files : List (List Request)) (old new : List (Job X)) (from now : List Outlet) (stopped : Option PrintFault) (u v : SinkSight) (opened : AreOpen files old from) (printed : IsPrinted stopped from now u v) where
-  pub lanes_still : length new ≡ length old → KeepLanes old new → AreLanes new now
-  lanes_still long keep k j o within =
+module _ {X : Type 0} {files : List (List Request)} {old : List (Job X)} {from now : List Outlet} {stopped : Option PrintFault} {u v : SinkSight} (opened : AreOpen files old from) (printed : IsPrinted stopped from now u v) where
+  pub lanes_still : (new : List (Job X)) → length new ≡ length old → KeepLanes old new → AreLanes new now
+  lanes_still new long keep k j o within =
       let a = opened.jobs_count in let b = opened.outlets_count in
       lane_still (requests_of files k) (get_or old k j).outbox (get_or new k j).outbox (get_or from k o) (get_or now k o) (opened.each k j o (omega arith)) (keep k j (omega arith)) (printed.received.each k o (omega arith)).same
 
@@ -215,9 +215,9 @@ module _ {X : Type 0} (files : List (List Request)) (old new : List (Job X)) (fr
         few = λ k o within. omega (arith, left_first k o within, (printed.received.each k o (omega arith)).left);
       }
 
-  pub streamed : {K : Type 0} (t : TableSight K) (s : Sizes) (last : List (Job X)) (counts : List ℕ) (joined : Joined X) → length new ≡ length old → length last ≡ length new → HaveWorked t s files new → KeepLanes old new → SendFirst new
+  pub streamed : {K : Type 0} (t : TableSight K) (s : Sizes) (new last : List (Job X)) (counts : List ℕ) (joined : Joined X) → length new ≡ length old → length last ≡ length new → HaveWorked t s files new → KeepLanes old new → SendFirst new
       → HaveReceived new now → HaveSameWork new last → ArePrinted files now counts → AreJoined t last joined → HasStreamed (length files) joined.done.items counts stopped u v
-  streamed t s last counts joined long longer worked keep sent received same are_printed are_joined =
+  streamed t s new last counts joined long longer worked keep sent received same are_printed are_joined =
       let a = opened.jobs_count in let b = opened.outlets_count in
       let all : HaveWorked t s files last = worked_still t files s new last longer same worked in record {
         lines = printed.lines;
@@ -234,4 +234,4 @@ module _ {X : Type 0} (files : List (List Request)) (old new : List (Job X)) (fr
           let j1 = get_or new k j in
           let is : (get_or last k j).done.items ≡ j1.done.items = ap (λ (x : Job X). x.done.items) (same k j (omega arith)) in
           subst (λ (l : List Done). HasReceived l (received_by (get_or now k o).drain)) (sym is)
-          (received_done j1.outbox (get_or now k o) j1.done.items (lanes_still long keep k j o (omega arith)) (sent k j (omega arith)) (received k j o (omega arith)))
+          (received_done j1.outbox (get_or now k o) j1.done.items (lanes_still new long keep k j o (omega arith)) (sent k j (omega arith)) (received k j o (omega arith)))

@@ -1,5 +1,8 @@
 //! How the work on a file ends.
 
+ghost use Rattle.run_workers.specs.WorkEnd.{end_by};
+ghost use Rattle.std.specs.Prelude.{◌≡◌};
+
 use request_attempts::unserved::Unserved;
 
 /// How the work on a file ends.
@@ -15,9 +18,6 @@ pub enum WorkEnd {
 }
 
 impl From<Unserved> for WorkEnd {
-    ghost use Rattle.run_workers.specs.WorkEnd.{end_by};
-    ghost use Rattle.std.specs.Prelude.{◌≡◌};
-
     ghost from_gives = { λ fault end. end ≡ end_by fault };
 
     fn from(fault: Unserved) -> WorkEnd {

@@ -45,6 +45,10 @@ use Rattle.stm_slots.proofs.Staged.{boxes_sized, nobody, some_turn, alone, of_th
 use Rattle.stm_slots.proofs.Turning.{taken, given, raised_durable, raised_reproduced}
 use Rattle.stm_slots.proofs.Boxing.{followed, followed_lists, seen, put_back, emptied}
 
+-- the hands of equal turns are equal
+pub same_hands : (a b : Hands) → Some a ≡ Some b → a ≡ b
+same_hands a b e = cc
+
 module _ {M : Type 0} {ghosts : Ghosts M} (sight : M → Sight) (o : Opening M ghosts) where
   abbrev z : Setup
   z = setup_of sight o
@@ -54,13 +58,6 @@ module _ {M : Type 0} {ghosts : Ghosts M} (sight : M → Sight) (o : Opening M g
 
   abbrev fact : State → List Beside → List (Maybe (Slot M ghosts)) → Type 0
   fact c xs homes = SlotsKept sight o (stage_of c) xs homes
-
-  hands_are : (a b : Hands) → Some a ≡ Some b → a ≡ b
-  hands_are a b e = ap get e
-    where
-      get : Option Hands → Hands
-      get None = a
-      get (Some h) = h
 
   -- what a seat keeps last decides, and a stage that is the same keeps the rule
   pub kept_last : {s now : Stage} (xs : List Beside) (id : ℕ) (y1 y2 : Beside) (homes : List (Maybe (Slot M ghosts))) (hands : Hands) → now ≡ s → SlotsKeptBy sight o s (set (set xs id y1) id y2) homes hands → SlotsKept sight o now (set xs id y2) homes
@@ -146,7 +143,7 @@ module _ {M : Type 0} {ghosts : Ghosts M} (sight : M → Sight) (o : Opening M g
     at_owner = at_map owner_of c.views id v is_there
 
     pub kept_by : SlotsKeptBy sight o (stage_of c) xs homes hands
-    kept_by = subst (SlotsKeptBy sight o (stage_of c) xs homes) (hands_are f.hands hands (sym (f.kept.held id (owner_of v) x at_owner at has) ∙ is)) f.kept
+    kept_by = subst (SlotsKeptBy sight o (stage_of c) xs homes) (same_hands f.hands hands (sym (f.kept.held id (owner_of v) x at_owner at has) ∙ is)) f.kept
 
     pub now_lists : ListsKept z (stage_of c) m hands.boxes
     now_lists = followed_lists sight o (stage_of c) xs homes hands kept_by (boxes_sized z c k) id (owner_of v) x at_owner at (alone z c k id v is_there has) (some_turn z c k id v is_there has) (of_thread z c k) (once z c k) (open_apart z c k) m follows

@@ -154,9 +154,9 @@ module _ {M : Type 0} {ghosts : Ghosts M} (sight : M → Sight) (o : Opening M g
       followed = let y : Beside = record x { turn = Some (record hands { lists = m }) } in record {
         sized = k.sized;
         seats = length-set xs id y ∙ k.seats;
+        lists = followed_lists;
         count = k.count;
         queues = k.queues;
-        lists = followed_lists;
         pages = k.pages;
         boxes = k.boxes;
         shown = k.shown;

@@ -1,9 +1,9 @@
 -- The table is closed: what was kept of the slots is handed on.
-use Rattle.std.proofs.Common.{◌≡◌, ◌≢◌, ℕ, zero, suc, ◌+◌, ◌*◌, ◌<◌, ◌≤◌, true, false, List, [], ◌∷◌, get_or, map, refl, sym, ap, ◌∙◌, subst, ⊎_elim, arith}
+use Rattle.std.proofs.Common.{◌≡◌, ◌≢◌, ℕ, ◌*◌, ◌<◌, true, false, List, [], get_or, map, refl, sym, ap, ◌∙◌, subst, ⊎_elim, arith}
 use Rattle.std.specs.Prelude.{Option, Some, None}
 use Rattle.std.specs.List.{Contains}
 use Rattle.std.proofs.lemmas.Bool.{true≢false, cases_eq}
-use mathlib.Core.Option.{Option as Maybe, some, some-injective, some-ne-none}
+use mathlib.Core.Option.{Option as Maybe, some, some-injective}
 use mathlib.Core.Logic.{dite}
 use native.Mathlib.Decide.{dec_lt, ℕ_discrete}
 use lib.ListN.{get_elem?}
@@ -14,7 +14,7 @@ use Rattle.pmem_trait.specs.declared.medium.Medium.{Ghosts}
 use Rattle.atomic_table.specs.Table.{Final, Seen}
 use Rattle.core_events.specs.Setups.{Setup, lock_of, page_of, cell_of, entry_with, frame_in, ENTRY}
 use Rattle.core_events.specs.Keyed.{total}
-use Rattle.core_events.specs.Views.{Entry, Part, View}
+use Rattle.core_events.specs.Views.{Entry, View}
 use Rattle.core_events.specs.Words.{State}
 use Rattle.core_events.specs.Entries.{value_at, writes_of}
 use Rattle.core_events.specs.Conditions.{Owns}
@@ -23,7 +23,7 @@ use Rattle.core_events.specs.KeptTurn.{Holder, holder_of}
 use Rattle.core_events.specs.KeptPages.{entry_word, pins_of, pins_at}
 use Rattle.core_events.specs.Kept.{Kept}
 use Rattle.core_events.specs.Telling.{HasAll}
-use Rattle.core_events.proofs.Filled.{counts_one, frame_of_entry, one_at}
+use Rattle.core_events.proofs.Filled.{counts_one, counts_two, frame_of_entry, one_at}
 use Rattle.core_events.proofs.Lists.{at_map, of_map}
 use Rattle.core_events.proofs.Pages.{few_pins}
 use Rattle.core_events.proofs.Plain.{plain}
@@ -48,19 +48,12 @@ use Rattle.stm_slots.specs.declared.opening.Opening.{Opening}
 use Rattle.stm_slots.proofs.Taken.{contains_none}
 use Rattle.stm_slots.proofs.KeptBacks.{home_known, home_lists, kept_by, listed, same_values}
 
-two_held : (ps : List Part) (i j : ℕ) (p q : Part) → get_elem? ps i ≡ some p → get_elem? ps j ≡ some q → i ≢ j → held_of p + held_of q ≤ total held_of ps
-two_held [] i j p q e f o = absurd (some-ne-none p (sym e))
-two_held (x ∷ xs) zero zero p q e f o = absurd (o refl)
-two_held (x ∷ xs) zero (suc j) p q e f o = let s : held_of x ≡ held_of p = ap held_of (some-injective x p e) in let h = counts_one held_of xs j q f in omega arith
-two_held (x ∷ xs) (suc i) zero p q e f o = let s : held_of x ≡ held_of q = ap held_of (some-injective x q f) in let h = counts_one held_of xs i p e in omega arith
-two_held (x ∷ xs) (suc i) (suc j) p q e f o = let h = two_held xs i j p q e f (λ y. o (ap suc y)) in omega arith
-
 -- no other view has a thread's number
 module _ (z : Setup) (c : State) (k : Kept z c) (id : ℕ) (v : View) (at : get_elem? c.views id ≡ some v) (has_all : HasAll z v) where
   no_other : (j t : ℕ) (w : View) → get_elem? c.views j ≡ some w → j ≢ id → w.part.thread ≡ Some t → ⊥
   no_other j t w e o mine =
       let ps = map part_of c.views in
-      let two = two_held ps id j v.part w.part (at_map part_of c.views id v at) (at_map part_of c.views j w e) (λ y. o (sym y)) in
+      let two = counts_two held_of ps id j v.part w.part (at_map part_of c.views id v at) (at_map part_of c.views j w e) (λ y. o (sym y)) in
       let splits = counts_one splits_of ps id v.part (at_map part_of c.views id v at) in
       let one = one_at w.part.thread t mine in
       let held = k.layers.threads.held in let counted = k.layers.threads.counted in omega arith

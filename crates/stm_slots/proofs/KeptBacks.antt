@@ -64,7 +64,8 @@ both_write rs (p ∷ ps) hist n all each has = ⊎_elim
     (λ more. both_write rs ps hist n (All-tail (λ r. HasRecord rs r.number × (writes_in rs r.number ≡ r.writes)) p ps all) (λ j d lt. each (suc j) d (omega arith)) more)
     (has_either p ps n has)
 
-both_have : (rs ps : List RedoRecord) (n : ℕ) → All (λ r. HasRecord rs r.number × (writes_in rs r.number ≡ r.writes)) ps → HasRecord ps n → HasRecord rs n
+-- what has all records of another list has each number of it
+pub both_have : (rs ps : List RedoRecord) (n : ℕ) → All (λ r. HasRecord rs r.number × (writes_in rs r.number ≡ r.writes)) ps → HasRecord ps n → HasRecord rs n
 both_have rs [] n all has = absurd (false≢true has)
 both_have rs (p ∷ ps) n all has = ⊎_elim
     (λ e. subst (HasRecord rs) e (All-head (λ r. HasRecord rs r.number × (writes_in rs r.number ≡ r.writes)) p ps all).0)

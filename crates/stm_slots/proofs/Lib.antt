@@ -21,6 +21,7 @@ pub mod PageActs
 pub mod Following
 pub mod FirstPages
 pub mod Goes
+pub mod Untold
 pub mod Images
 pub mod JoinedRecords
 pub mod Lawful

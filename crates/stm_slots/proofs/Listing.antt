@@ -22,18 +22,7 @@ module _ (z : Setup) where
       → (l.state.dead ≡ false → (k n : ℕ) → get_elem? t.boxes k ≡ some n → 0 < n → HasRecord l.records n → (r : RedoRecord) × Contains now (k, r))
       → (l.state.dead ≡ false → RingsOrdered z t l)
       → ListsKept z t l now
-  lists_moved s t l taken now k durable reproduced fault persisted handed in_hand ordered = record {
-    lawful = k.lawful;
-    rings = k.rings;
-    pages = k.pages;
-    durable = durable;
-    reproduced = reproduced;
-    fault = fault;
-    persisted = persisted;
-    handed = handed;
-    in_hand = in_hand;
-    ordered = ordered;
-  }
+  lists_moved s t l taken now k durable reproduced fault persisted handed in_hand ordered = record { lawful = k.lawful; rings = k.rings; pages = k.pages; durable = durable; reproduced = reproduced; fault = fault; persisted = persisted; handed = handed; in_hand = in_hand; ordered = ordered }
 
   -- with other owners and words
   pub lists_owned : (s t : Stage) (l : BackLists) (taken : List (ℕ × RedoRecord)) → ListsKept z s l taken → t.durable ≤ l.state.log.durable → t.reproduced ≤ l.state.log.reproduced

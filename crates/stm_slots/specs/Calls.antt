@@ -4,6 +4,7 @@ use Rattle.std.specs.List.{Contains}
 use Rattle.dude_base.specs.Image.{image_words}
 use Rattle.dude_base.specs.Records.{RedoBundle, RedoRecord}
 use Rattle.pmem_trait.specs.declared.medium.Medium.{Ghosts}
+use Rattle.pmem_trait.specs.Sights.{state_now}
 use Rattle.redo_record.specs.Waiting.{Waiting}
 use Rattle.back_store.specs.declared.back.Back.{Back}
 use Rattle.back_store.specs.declared.back_fault.BackFault.{BackFault}
@@ -34,6 +35,10 @@ StaysKnown old new = (b : Since) (rs : List RedoRecord) → IsKnownBy b rs old �
 abbrev pub TakesRecords : {M : Type 0} {ghosts : Ghosts M} → RedoBundle → Result (Unit {0}) BackFault → Back M ghosts → Back M ghosts → Type 0
 TakesRecords bundle result old new = (b : Since) (rs more : List RedoRecord) → JoinsJust more bundle → AreNew b.first rs more
     → IsKnownBy b rs old → IsKnownBy b (handed result more rs) new
+
+-- no number is told, where the medium is visible
+abbrev pub TellsNone : {M : Type 0} {ghosts : Ghosts M} → Back M ghosts → Back M ghosts → Type 0
+TellsNone old new = IsTrue (sight_of old).is_visible → (state_now (sight_of new)).told ≡ (state_now (sight_of old)).told
 
 -- The back isn't dead, and nothing waits in it; its medium is as such a back left it, with room for the image, and the home is the opening one.
 pub record IsIdle {M : Type 0} {ghosts : Ghosts M} (b : Since) (back : Back M ghosts) : Type 0 where

@@ -32,14 +32,4 @@ pub record Stage : Type 0 where
 
 -- what the rule reads of a state
 abbrev pub stage_of : State → Stage
-stage_of c = record {
-  threads = c.threads;
-  turn = c.turn;
-  durable = c.durable;
-  reproduced = c.reproduced;
-  entries = c.entries;
-  boxes = c.boxes;
-  records = c.records;
-  persisted = c.persisted;
-  owners = map owner_of c.views;
-}
+stage_of c = record { threads = c.threads; turn = c.turn; durable = c.durable; reproduced = c.reproduced; entries = c.entries; boxes = c.boxes; records = c.records; persisted = c.persisted; owners = map owner_of c.views }

@@ -6,7 +6,7 @@ ghost use Rattle.back_store.specs.BackView.{HasCause, HasPersistCause, ReadsPage
 ghost use Rattle.back_store.specs.Backlog.{IsLawful, StopsAfter};
 ghost use Rattle.dude_base.specs.declared.limits.TheConstants.{PAGE};
 ghost use Rattle.std.specs.Prelude.{◌≡◌, ◌<◌, IfOk};
-ghost use Rattle.stm_slots.specs.Calls.{StartsKnown, StaysKnown, TakesRecords};
+ghost use Rattle.stm_slots.specs.Calls.{StartsKnown, StaysKnown, TakesRecords, TellsNone};
 ghost use Rattle.stm_slots.specs.Records.{LawOfJoinedRecords};
 
 use back_store::{Back, BackFault};
@@ -48,11 +48,12 @@ pub fn announce<M: Medium>(back: &mut Back<M>) -> Result<u64, BackFault>
 }
 
 /// Reproduces the next durable records, of at most `most` numbers, but one bundle at least where there is one and `most`
-/// isn't 0.
+/// isn't 0. It tells nothing.
 pub fn reproduce<M: Medium>(back: &mut Back<M>, most: u64) -> Result<u64, BackFault>
     ensures answer { IfOk result (StopsAfter (state_of back.old).log most) }
     ensures state { state_of back.new ≡ after_reproduce result (state_of back.old) }
     ensures cause { HasCause result back.old back.new }
+    ensures told { IfOk result (λ n. TellsNone back.old back.new) }
     ensures known { StaysKnown back.old back.new }
 {
     let result = back.reproduce(most);

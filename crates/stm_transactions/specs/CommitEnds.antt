@@ -7,25 +7,17 @@ use Rattle.word_space.specs.declared.stop.Stop.TheVariants as stop
 use Rattle.core_events.specs.Setups.{Setup, lock_of}
 use Rattle.core_events.specs.Keyed.{has}
 use Rattle.core_events.specs.Views.{the_lock, About, View}
-use Rattle.core_events.specs.Events.{Event, draw, is_good, place_behind}
+use Rattle.core_events.specs.Events.{is_good, place_behind}
 use Rattle.core_events.specs.Conditions.{IsIdle}
 use Rattle.core_table.specs.Known.{Known}
 use Rattle.core_table.specs.Layout.{TableSight}
 use Rattle.stm_transactions.specs.Seats.{HasNotFallen, HasRisen}
-use Rattle.core_table.specs.Abouts.{about}
+use Rattle.core_table.specs.Abouts.{about_of}
 use Rattle.stm_transactions.specs.declared.commit.Commit.{Commit}
-use Rattle.stm_transactions.specs.declared.served.Served.{Served}
+use Rattle.core_table.specs.declared.served.Served.{Served}
 use Rattle.stm_transactions.specs.declared.lost.Lost.{Lost}
 use Rattle.stm_transactions.specs.declared.lost.Lost.TheVariants as lost
 use Rattle.stm_transactions.specs.Pages.{IsPageStop}
-
--- what the entry is about
-abbrev pub about_of : Served → About
-about_of s = about s.file s.index s.request.now s.reply.now
-
--- the draw of the number of the entry, for these writes
-abbrev pub draw_for : Served → List Write → Event
-draw_for s ws = draw (about_of s) ws
 
 -- whether there are writes
 abbrev pub has_writes : List Write → Bool

@@ -14,8 +14,8 @@ use Rattle.stm_transactions.specs.Seats.{KeepsSeat, OutlastsReading}
 -- The fact of the slots outlasts each step by which a transaction reads, and ends, but for the draw and the post of a number.
 pub record OutlastsEnding {S X K : Type 0} (slot_fact : K → State → List X → List (Option S) → Type 0) (t : TableSight K) : Type 0 where
   pub reading : OutlastsReading slot_fact t
-  pub finish : (about : About) → Outlasts (slot_fact t.key) t.setup (finish about)
   pub decide : Outlasts (slot_fact t.key) t.setup decide
+  pub finish : (about : About) → Outlasts (slot_fact t.key) t.setup (finish about)
   pub store : (at : ℕ) → Outlasts (slot_fact t.key) t.setup (store at)
   pub touch : (page : ℕ) → Outlasts (slot_fact t.key) t.setup (touch page)
   pub release : (lock : ℕ) → Outlasts (slot_fact t.key) t.setup (release lock)

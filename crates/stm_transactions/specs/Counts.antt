@@ -1,7 +1,7 @@
 -- What a commit answers, and what it makes of the numbers of its pass.
 use Rattle.std.specs.Prelude.{◌≡◌, ℕ, Bool, true, false, Result, Ok, Err}
 use Rattle.tatp_model.specs.declared.done.Done.{Done}
-use Rattle.stm_transactions.specs.declared.served.Served.{Served}
+use Rattle.core_table.specs.declared.served.Served.{Served}
 use Rattle.stm_transactions.specs.declared.lost.Lost.{Lost}
 use Rattle.stm_transactions.specs.declared.lost.Lost.TheVariants.{Out, Busy, Conflict}
 use Rattle.stm_transactions.specs.declared.pass_numbers.PassNumbers.{PassNumbers}

@@ -1,6 +1,7 @@
 -- The pins of a transaction, and what a call leaves of them.
 use Rattle.std.specs.Prelude.{◌≡◌, ◌≢◌, ℕ, true, false, List, [], ◌∷◌, Option, Some, None}
 use Rattle.atomic_table.specs.declared.shared.Seat.{Seat}
+use Rattle.dude_base.specs.declared.write.Write.{Write}
 use Rattle.word_space.specs.declared.stop.Stop.{Stop}
 use Rattle.word_space.specs.declared.stop.Stop.TheVariants.{Out, Busy}
 use Rattle.core_events.specs.Setups.{Setup}
@@ -10,6 +11,7 @@ use Rattle.core_events.specs.Events.{pin, view_after}
 use Rattle.core_table.specs.Known.{Known}
 use Rattle.core_table.specs.Layout.{TableSight}
 use Rattle.stm_transactions.specs.declared.pinned.Pinned.{Pinned}
+use Rattle.stm_transactions.specs.Pairs.{pairs_of}
 use Rattle.stm_transactions.specs.Seats.{HasNotFallen, HasRisen, IsLive}
 
 -- the one page that a transaction pins between its calls, or none
@@ -24,6 +26,14 @@ pub record IsPinning (pins : List (ℕ × ℕ)) (v : View) : Type 0 where
   pub no_number : v.tx.hand.number ≡ 0
   pub no_turn : v.turn.has_it ≡ false
   pub pins_are : v.paging.pins ≡ pins
+
+-- one that pins the page of a call, or none
+abbrev pub IsPinningOne : Option Pinned → View → Type 0
+IsPinningOne pinned v = IsPinning (pin_list pinned) v
+
+-- one that pins the pages of a list, each in its frame
+abbrev pub IsPinningAll : List Write → View → Type 0
+IsPinningAll frames v = IsPinning (pairs_of frames) v
 
 -- w is v with these pins
 pub record Paged (pins : List (ℕ × ℕ)) (v w : View) : Type 0 where

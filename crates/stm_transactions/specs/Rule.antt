@@ -29,14 +29,14 @@ lets_by slot_fact x t splits joins events = record {
       entry = λ page. events (entry page) refl;
       pin = λ page. events (pin page) refl;
       unpin = λ page. events (unpin page) refl;
-      extend = events extend refl;
       look = λ lock. events (look lock) refl;
       load = λ at. events (load at) refl;
       check = λ lock. events (check lock) refl;
       take = λ lock. events (take lock) refl;
+      extend = events extend refl;
     };
-    finish = λ about. events (finish about) refl;
     decide = events decide refl;
+    finish = λ about. events (finish about) refl;
     store = λ at. events (store at) refl;
     touch = λ page. events (touch page) refl;
     release = λ lock. events (release lock) refl;

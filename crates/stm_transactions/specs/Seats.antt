@@ -36,11 +36,11 @@ pub record OutlastsReading {S X K : Type 0} (slot_fact : K → State → List X 
   pub entry : (page : ℕ) → Outlasts (slot_fact t.key) t.setup (entry page)
   pub pin : (page : ℕ) → Outlasts (slot_fact t.key) t.setup (pin page)
   pub unpin : (page : ℕ) → Outlasts (slot_fact t.key) t.setup (unpin page)
-  pub extend : Outlasts (slot_fact t.key) t.setup extend
   pub look : (lock : ℕ) → Outlasts (slot_fact t.key) t.setup (look lock)
   pub load : (at : ℕ) → Outlasts (slot_fact t.key) t.setup (load at)
   pub check : (lock : ℕ) → Outlasts (slot_fact t.key) t.setup (check lock)
   pub take : (lock : ℕ) → Outlasts (slot_fact t.key) t.setup (take lock)
+  pub extend : Outlasts (slot_fact t.key) t.setup extend
 
 -- the view is of this thread
 pub record IsOf (thread : ℕ) (v : View) : Type 0 where

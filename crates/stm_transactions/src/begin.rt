@@ -1,17 +1,68 @@
 //! A transaction begins.
 
 ghost use Rattle.std.specs.Borrow.{sem, RestsIfErr};
-ghost use Rattle.std.specs.Prelude.{◌≡◌, ◌<◌, IfOk, IfErr};
+ghost use Rattle.std.specs.Prelude.{◌≡◌, ◌<◌, [], None, IfOk, IfErr};
+ghost use Rattle.stm_transactions.specs.Begins.{Begins, IsReady};
 ghost use Rattle.stm_transactions.specs.Passes.{IsRefused, IsResting};
 ghost use Rattle.stm_transactions.specs.Transactions.{HasBegun};
 ghost use Rattle.stm_transactions.specs.contracts.pass.Pass.{the_row};
 
 use crate::box_full::BoxFull;
 use crate::pass::Pass;
+use crate::reads::Reads;
 use crate::rule::{TransactionRule, let_transact};
-use crate::tx::{Tx, begin_now};
+use crate::tx::{Tx, TxOver};
 use core_table::stm::Stm;
+use dude_base::write_list::WriteList;
 use std::alloc::Global;
+
+// How many reads have room from the begin on, where there is memory: more than a request makes.
+const FIRST_READS: usize = 64;
+
+// No reads, with room for the first ones. Where memory is wanting there is none, and a read tells it.
+fn first_room(alloc: Global) -> Vec<(u64, u64)>
+    ensures { result.items ≡ [] }
+{
+    match Vec::with_capacity(alloc, FIRST_READS) {
+        Ok(items) => items,
+        Err(_) => Vec::new(alloc),
+    }
+}
+
+// Begins a transaction of the pass, whose next box was seen empty.
+fn begin_now<'a, S, X, K, P: TransactionRule<S, X, K>>(
+    alloc: Global,
+    p: &'a mut Pass<X>,
+    stm: &'a Stm<S, X, K, P>,
+) -> Tx<'a, S, X, K, P>
+    requires ready { IsReady stm.now.events p.old }
+    ensures same { result.pass.ghost_name ≡ p.entry.ghost_name }
+    ensures stm { result.stm.now ≡ stm.now }
+    ensures view { Begins stm.now.events p.old result.snapshot result.seat.me.0.view }
+    ensures numbers { (result.numbers ≡ p.old.numbers) × (result.refused ≡ 0) }
+    ensures none { (result.lists.items.items ≡ []) × (result.writes ≡ []) }
+    ensures no_stop { result.stopped ≡ None }
+{
+    let_transact(stm);
+    let numbers = p.numbers();
+    let mut seat = p.take_seat();
+    let snapshot = stm.clock(&mut seat);
+    TxOver {
+        pass: p,
+        stm,
+        seat,
+        numbers,
+        snapshot,
+        pinned: None,
+        writes: WriteList::new(),
+        held: WriteList::new(),
+        stopped: None,
+        refused: 0,
+        lists: Reads {
+            items: first_room(alloc),
+        },
+    }
+}
 
 /// Begins a transaction of the pass, where its next box is empty.
 pub fn begin_in<'a, S, X, K, P: TransactionRule<S, X, K>>(

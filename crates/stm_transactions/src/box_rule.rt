@@ -1,7 +1,7 @@
 //! What a draw and a post do with the slots of boxes, by the rule of the slots.
 
-use crate::served::Served;
 use core_table::event_table::Seat;
+use core_table::served::Served;
 use core_table::slot_rule::{AnySlots, SlotRule};
 use core_table::stm::Stm;
 use core_table::terms::Terms;
@@ -13,10 +13,10 @@ use dude_base::write_list::WriteList;
 pub trait BoxRule<S, X, K>: SlotRule<S, X, K> + Sized {
     ghost use Rattle.core_events.specs.Conditions.{May, record_of};
     ghost use Rattle.core_events.specs.Events.{post};
+    ghost use Rattle.core_table.specs.Abouts.{drawing};
     ghost use Rattle.core_table.specs.Steps.{BelongsTo};
     ghost use Rattle.std.specs.Prelude.{◌≡◌, List, Some};
     ghost use Rattle.stm_transactions.specs.Boxes.{HasBox, TakesBox, GivesBox};
-    ghost use Rattle.stm_transactions.specs.CommitEnds.{draw_for};
 
     /// What stands in the slot that a draw takes; nothing, where it takes none.
     ghost taken: { List S };
@@ -29,9 +29,9 @@ pub trait BoxRule<S, X, K>: SlotRule<S, X, K> + Sized {
         writes: &WriteList,
     ) -> u64
         requires seat { BelongsTo stm.now.events seat.old }
-        requires may { May stm.now.events.setup (draw_for served.now writes.now)
+        requires may { May stm.now.events.setup (drawing served.now writes.now)
             seat.old.me.0.view }
-        ensures drew { TakesBox taken stm.now.events (draw_for served.now writes.now)
+        ensures drew { TakesBox taken stm.now.events (drawing served.now writes.now)
             seat.old seat.new result };
 
     /// Posts the record of the open number in the thread's next box, and ends the transaction.
@@ -56,14 +56,7 @@ impl<S> BoxRule<S, (), Terms> for AnySlots {
         served: &Served,
         writes: &WriteList,
     ) -> u64 {
-        stm.draw(
-            seat,
-            served.file,
-            served.index,
-            served.request,
-            served.reply,
-            writes,
-        )
+        stm.draw(seat, served, writes)
     }
 
     fn post(

@@ -1,9 +1,10 @@
 //! The draw and the post of slots that hold records.
 
 use crate::box_rule::BoxRule;
-use crate::served::Served;
+use core_table::change::Change;
 use core_table::event_table::Seat;
 use core_table::places::CLOCK;
+use core_table::served::Served;
 use core_table::stm::Stm;
 use dude_base::redo::Redo;
 use dude_base::write_list::WriteList;
@@ -13,8 +14,6 @@ use stm_slots::beside::Beside;
 use stm_slots::opening::Opening;
 use stm_slots::slot::Slot;
 use stm_slots::slots_rule::KeptSlots;
-use tatp_model::reply::Reply;
-use tatp_model::request::Request;
 
 impl<M: Medium> BoxRule<Slot<M>, Beside, Opening<M>> for KeptSlots<M> {
     ghost use Rattle.std.specs.Prelude.{[], ◌∷◌};
@@ -30,15 +29,9 @@ impl<M: Medium> BoxRule<Slot<M>, Beside, Opening<M>> for KeptSlots<M> {
     ) -> u64 {
         // The setup is that of the key.
         let _boxes = stm.events.box_count();
-        let about = (
-            served.file,
-            served.index,
-            served.request,
-            served.reply,
-            writes,
-        );
+        let next = Change::Add { more: 1 };
         stm.events
-            .add_by::<Brand, (u64, u64, &Request, &Reply, &WriteList)>(seat, CLOCK, 1, &about)
+            .change_by::<Brand, (&Served, &WriteList)>(seat, CLOCK, next, &(served, writes))
     }
 
     fn post(

@@ -6,7 +6,7 @@ ghost use Rattle.stm_transactions.specs.Counts.{IsDoneWith, IsErrWith, after_com
 
 use crate::lost::Lost;
 use crate::pass_numbers::PassNumbers;
-use crate::served::Served;
+use core_table::served::Served;
 use dude_base::write_list::WriteList;
 use tatp_model::done::Done;
 

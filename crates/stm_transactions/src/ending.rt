@@ -6,8 +6,7 @@ ghost use Rattle.stm_transactions.specs.CommitEnds.{AsLost, Enters, HasEnded, Is
 ghost use Rattle.stm_transactions.specs.CommitRule.{OutlastsEnding};
 ghost use Rattle.stm_transactions.specs.Draws.{RunsPinned};
 ghost use Rattle.stm_transactions.specs.Owns.{OwnsHeld};
-ghost use Rattle.stm_transactions.specs.Pairs.{pairs_of};
-ghost use Rattle.stm_transactions.specs.Pins.{IsPinning, pin_list};
+ghost use Rattle.stm_transactions.specs.Pins.{IsPinningAll, IsPinningOne};
 ghost use Rattle.stm_transactions.specs.Seats.{Stays};
 
 use crate::box_rule::BoxRule;
@@ -17,9 +16,9 @@ use crate::pages::let_go;
 use crate::pinned::Pinned;
 use crate::pinning::pin_all;
 use crate::publishing::publish;
-use crate::served::Served;
 use crate::storing::{restore_all, unpin_all};
 use core_table::event_table::Seat;
+use core_table::served::Served;
 use core_table::slot_rule::SlotRule;
 use core_table::stm::Stm;
 use dude_base::write_list::WriteList;
@@ -32,10 +31,10 @@ fn undo<S, X, K, P: SlotRule<S, X, K>>(
     held: &WriteList,
     frames: &WriteList,
 )
+    requires pinning { IsPinningAll frames.now seat.old.me.0.view }
+    requires owned { OwnsHeld held.now seat.old.me.0.view }
     requires seat { BelongsTo stm.now.events seat.old }
     requires slots { OutlastsEnding P.fact stm.now.events }
-    requires pinning { IsPinning (pairs_of frames.now) seat.old.me.0.view }
-    requires owned { OwnsHeld held.now seat.old.me.0.view }
     ensures stays { Stays stm.now.events seat.old seat.new }
     ensures view { OnlyUndoes seat.old seat.new }
 {
@@ -52,7 +51,7 @@ pub fn give_up<S, X, K, P: SlotRule<S, X, K>>(
 )
     requires seat { BelongsTo stm.now.events seat.old }
     requires slots { OutlastsEnding P.fact stm.now.events }
-    requires pinning { IsPinning (pin_list pinned.now) seat.old.me.0.view }
+    requires pinning { IsPinningOne pinned.now seat.old.me.0.view }
     requires owned { OwnsHeld held.now seat.old.me.0.view }
     ensures stays { Stays stm.now.events seat.old seat.new }
     ensures ended { HasEnded seat.old.me.0.view seat.new.me.0.view }
@@ -95,13 +94,7 @@ pub fn commit_all<S, X, K, P: BoxRule<S, X, K>>(
 {
     let_go(stm, seat, pinned);
     if commit.writes.len() == 0 {
-        stm.finish(
-            seat,
-            served.file,
-            served.index,
-            served.request,
-            served.reply,
-        );
+        stm.finish(seat, served);
         return Ok(commit.snapshot);
     }
     let mut frames = WriteList::new();

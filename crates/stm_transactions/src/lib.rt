@@ -29,7 +29,6 @@ pub mod reading;
 pub mod reads;
 pub mod rule;
 mod seeing;
-pub mod served;
 mod settling;
 pub mod split_fault;
 mod storing;

@@ -83,9 +83,9 @@ pub fn look_at<S, X, K, P: SlotRule<S, X, K>>(
     lock: u64,
     reads: &[(u64, u64)],
 ) -> Result<GoodLook, BadLock>
+    requires inside { lock < stm.now.events.setup.locks }
     requires seat { BelongsTo stm.now.events seat.old }
     requires slots { OutlastsReading P.fact stm.now.events }
-    requires inside { lock < stm.now.events.setup.locks }
     requires reading { IsReading thread snapshot reads.now seat.old.me.0.view }
     ensures stays { Stays stm.now.events seat.old seat.new }
     ensures ok { IfOk result (LooksAt thread lock seat.old seat.new) }

@@ -20,11 +20,11 @@ use dude_base::write_list::WriteList;
 pub fn own_lock<S, X, K, P: SlotRule<S, X, K>>(
     stm: &Stm<S, X, K, P>,
     seat: &mut Seat<S, X>,
+    held: &mut WriteList,
+    lock: u64,
     thread: u64,
     snapshot: &mut u64,
-    lock: u64,
     reads: &[(u64, u64)],
-    held: &mut WriteList,
 ) -> Result<(), BadLock>
     requires seat { BelongsTo stm.now.events seat.old }
     requires slots { OutlastsReading P.fact stm.now.events }

@@ -3,7 +3,7 @@
 ghost use Rattle.core_events.specs.Keyed.{find};
 ghost use Rattle.core_table.specs.Steps.{BelongsTo};
 ghost use Rattle.std.specs.Prelude.{◌≡◌, ◌<◌, [], ◌∷◌, None, IfOk, IfErr, IfSome, OnErr};
-ghost use Rattle.stm_transactions.specs.Pins.{HasPinned, IsPinning, LeavesPins, LetsGo, Reaches, ReachesNone, StopsPin, pin_list, pins_in};
+ghost use Rattle.stm_transactions.specs.Pins.{HasPinned, IsPinning, IsPinningOne, LeavesPins, LetsGo, Reaches, ReachesNone, StopsPin, pin_list, pins_in};
 ghost use Rattle.stm_transactions.specs.Seats.{OutlastsReading, Stays};
 
 use crate::pinned::Pinned;
@@ -50,7 +50,7 @@ pub fn let_go<S, X, K, P: SlotRule<S, X, K>>(
 )
     requires seat { BelongsTo stm.now.events seat.old }
     requires slots { OutlastsReading P.fact stm.now.events }
-    requires pinning { IsPinning (pin_list pinned.now) seat.old.me.0.view }
+    requires pinning { IsPinningOne pinned.now seat.old.me.0.view }
     ensures stays { Stays stm.now.events seat.old seat.new }
     ensures gone { LetsGo seat.old seat.new }
 {
@@ -79,7 +79,7 @@ pub fn reach<S, X, K, P: SlotRule<S, X, K>>(
     requires seat { BelongsTo stm.now.events seat.old }
     requires slots { OutlastsReading P.fact stm.now.events }
     requires page { page < stm.now.events.setup.pages }
-    requires pinning { IsPinning (pin_list pinned.old) seat.old.me.0.view }
+    requires pinning { IsPinningOne pinned.old seat.old.me.0.view }
     ensures stays { Stays stm.now.events seat.old seat.new }
     ensures ok { IfOk result (Reaches page pinned.new seat.old seat.new) }
     ensures err { OnErr result (ReachesNone pinned.new seat.old seat.new) }

@@ -6,8 +6,7 @@ ghost use Rattle.dude_base.specs.declared.limits.TheConstants.{MAX_WRITES as MOS
 ghost use Rattle.std.specs.Prelude.{◌≡◌, ◌<◌, ◌*◌, [], length, All, IfErr, OnOk, OnErr};
 ghost use Rattle.stm_transactions.specs.CommitRule.{OutlastsEnding};
 ghost use Rattle.stm_transactions.specs.Pages.{ArePagesOf, HasPages, PinsNoMore, PinsOnce, StopsPages};
-ghost use Rattle.stm_transactions.specs.Pairs.{pairs_of};
-ghost use Rattle.stm_transactions.specs.Pins.{IsPinning, StopsPin};
+ghost use Rattle.stm_transactions.specs.Pins.{IsPinning, IsPinningAll, StopsPin};
 ghost use Rattle.stm_transactions.specs.Seats.{Stays};
 
 use crate::pages::pin_page;
@@ -30,7 +29,7 @@ pub fn pin_once<S, X, K, P: SlotRule<S, X, K>>(
     requires seat { BelongsTo stm.now.events seat.old }
     requires slots { OutlastsEnding P.fact stm.now.events }
     requires page { page < stm.now.events.setup.pages }
-    requires pinning { IsPinning (pairs_of frames.old) seat.old.me.0.view }
+    requires pinning { IsPinningAll frames.old seat.old.me.0.view }
     requires room { length frames.old < MOST }
     ensures stays { Stays stm.now.events seat.old seat.new }
     ensures ok { OnOk result (PinsOnce page frames.old frames.new seat.old seat.new) }

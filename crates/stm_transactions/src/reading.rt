@@ -4,7 +4,7 @@ ghost use Rattle.core_table.specs.Steps.{BelongsTo};
 ghost use Rattle.dude_base.specs.declared.limits.TheConstants.{PAGE as PAGE_WORDS};
 ghost use Rattle.std.specs.Prelude.{◌≡◌, ◌*◌, ◌<◌, IfOk, IfErr, OnErr};
 ghost use Rattle.stm_transactions.specs.Looks.{IsReading};
-ghost use Rattle.stm_transactions.specs.Pins.{IsPinning, pin_list};
+ghost use Rattle.stm_transactions.specs.Pins.{IsPinningOne};
 ghost use Rattle.stm_transactions.specs.Reads.{HasRead, HasReadNone, StopsRead};
 ghost use Rattle.stm_transactions.specs.Seats.{OutlastsReading, Stays};
 
@@ -33,7 +33,7 @@ pub fn read_word<S, X, K, P: SlotRule<S, X, K>>(
     requires seat { BelongsTo stm.now.events seat.old }
     requires slots { OutlastsReading P.fact stm.now.events }
     requires inside { at < stm.now.events.setup.pages * PAGE_WORDS }
-    requires pinning { IsPinning (pin_list pinned.old) seat.old.me.0.view }
+    requires pinning { IsPinningOne pinned.old seat.old.me.0.view }
     requires reading { IsReading thread snapshot.old reads.now seat.old.me.0.view }
     ensures stays { Stays stm.now.events seat.old seat.new }
     ensures ok { IfOk result

@@ -34,7 +34,7 @@ pub fn settle<S, X, K, P: BoxRule<S, X, K>>(
     stm.decide(seat, newest.at);
     store_all(stm, seat, commit.writes, frames);
     touch_all(stm, seat, number, frames);
-    release_all(stm, seat, number, commit.held);
+    release_all(stm, seat, commit.held, number);
     unpin_all(stm, seat, frames);
     P::post(
         stm,

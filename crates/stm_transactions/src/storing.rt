@@ -37,25 +37,6 @@ pub fn store_all<S, X, K, P: SlotRule<S, X, K>>(
     }
 }
 
-/// Gives all locks back with the number.
-pub fn release_all<S, X, K, P: SlotRule<S, X, K>>(
-    stm: &Stm<S, X, K, P>,
-    seat: &mut Seat<S, X>,
-    number: u64,
-    held: &WriteList,
-)
-    requires seat { BelongsTo stm.now.events seat.old }
-    requires slots { OutlastsEnding P.fact stm.now.events }
-    requires releasing { IsReleasing number held.now seat.old.me.0.view }
-    ensures stays { Stays stm.now.events seat.old seat.new }
-    ensures view { OnlyGivesLocks seat.old seat.new }
-{
-    for k in 0..held.len() {
-        let w = held.get(k);
-        stm.release(seat, w.at, number);
-    }
-}
-
 /// Raises the touches of all written pages to the number.
 pub fn touch_all<S, X, K, P: SlotRule<S, X, K>>(
     stm: &Stm<S, X, K, P>,
@@ -100,14 +81,33 @@ pub fn restore_all<S, X, K, P: SlotRule<S, X, K>>(
     seat: &mut Seat<S, X>,
     held: &WriteList,
 )
+    requires undone { IsUndone held.now seat.old.me.0.view }
     requires seat { BelongsTo stm.now.events seat.old }
     requires slots { OutlastsEnding P.fact stm.now.events }
-    requires undone { IsUndone held.now seat.old.me.0.view }
     ensures stays { Stays stm.now.events seat.old seat.new }
     ensures view { OnlyGivesLocks seat.old seat.new }
 {
     for k in 0..held.len() {
         let w = held.get(k);
         stm.restore(seat, w.at, w.value);
+    }
+}
+
+/// Gives all locks back with the number.
+pub fn release_all<S, X, K, P: SlotRule<S, X, K>>(
+    stm: &Stm<S, X, K, P>,
+    seat: &mut Seat<S, X>,
+    held: &WriteList,
+    number: u64,
+)
+    requires seat { BelongsTo stm.now.events seat.old }
+    requires slots { OutlastsEnding P.fact stm.now.events }
+    requires releasing { IsReleasing number held.now seat.old.me.0.view }
+    ensures stays { Stays stm.now.events seat.old seat.new }
+    ensures view { OnlyGivesLocks seat.old seat.new }
+{
+    for k in 0..held.len() {
+        let w = held.get(k);
+        stm.release(seat, w.at, number);
     }
 }

@@ -3,8 +3,7 @@
 ghost use Rattle.core_table.specs.Steps.{BelongsTo};
 ghost use Rattle.dude_base.specs.declared.limits.TheConstants.{PAGE as PAGE_WORDS};
 ghost use Rattle.std.proofs.Props.{props};
-ghost use Rattle.std.specs.Prelude.{◌≡◌, ◌*◌, ◌<◌, [], None, All, length};
-ghost use Rattle.stm_transactions.specs.Begins.{Begins, IsReady};
+ghost use Rattle.std.specs.Prelude.{◌≡◌, ◌*◌, ◌<◌, All, length};
 ghost use Rattle.stm_transactions.specs.Pairs.{pairs_of};
 ghost use Rattle.stm_transactions.specs.Passes.{Describes};
 ghost use Rattle.stm_transactions.specs.Pins.{pin_list};
@@ -21,11 +20,10 @@ use crate::pass_numbers::PassNumbers;
 use crate::pinned::Pinned;
 use crate::reads::{ReadList, Reads};
 use crate::rule::{TransactionRule, let_transact};
-use crate::served::Served;
 use core_table::event_table::Seat;
+use core_table::served::Served;
 use core_table::stm::Stm;
 use dude_base::write_list::WriteList;
-use std::alloc::Global;
 use tatp_model::done::Done;
 use tatp_model::reply::Reply;
 use tatp_model::request::Request;
@@ -56,54 +54,6 @@ pub struct TxOver<'a, S, X, K, P: TransactionRule<S, X, K>, R: ReadList> {
 
 /// A transaction.
 pub type Tx<'a, S, X, K, P> = TxOver<'a, S, X, K, P, Reads>;
-
-/// How many reads have room from the begin on, where there is memory: more than a request makes.
-const FIRST_READS: usize = 32;
-
-// No reads, with room for the first ones. Where memory is wanting there is none, and a read tells it.
-fn first_room(alloc: Global) -> Vec<(u64, u64)>
-    ensures { result.items ≡ [] }
-{
-    match Vec::with_capacity(alloc, FIRST_READS) {
-        Ok(items) => items,
-        Err(_) => Vec::new(alloc),
-    }
-}
-
-/// Begins a transaction of the pass, whose next box was seen empty.
-pub(crate) fn begin_now<'a, S, X, K, P: TransactionRule<S, X, K>>(
-    alloc: Global,
-    p: &'a mut Pass<X>,
-    stm: &'a Stm<S, X, K, P>,
-) -> Tx<'a, S, X, K, P>
-    requires ready { IsReady stm.now.events p.old }
-    ensures same { result.pass.ghost_name ≡ p.entry.ghost_name }
-    ensures stm { result.stm.now ≡ stm.now }
-    ensures view { Begins stm.now.events p.old result.snapshot result.seat.me.0.view }
-    ensures numbers { (result.numbers ≡ p.old.numbers) × (result.refused ≡ 0) }
-    ensures none { (result.lists.items.items ≡ []) × (result.writes ≡ []) }
-    ensures no_stop { result.stopped ≡ None }
-{
-    let_transact(stm);
-    let numbers = p.numbers();
-    let mut seat = p.take_seat();
-    let snapshot = stm.clock(&mut seat);
-    TxOver {
-        pass: p,
-        stm,
-        seat,
-        numbers,
-        snapshot,
-        pinned: None,
-        writes: WriteList::new(),
-        held: WriteList::new(),
-        stopped: None,
-        refused: 0,
-        lists: Reads {
-            items: first_room(alloc),
-        },
-    }
-}
 
 impl<'a, S, X, K, P: TransactionRule<S, X, K> + BoxRule<S, X, K>> TxOver<'a, S, X, K, P, Reads> {
     ghost use Rattle.std.specs.Prelude.{IfOk, IfErr};

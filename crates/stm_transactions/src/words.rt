@@ -113,11 +113,11 @@ impl<'a, S, X, K, P: TransactionRule<S, X, K>> Words for TxOver<'a, S, X, K, P, 
     fn write(&mut self, at: u64, value: u64) -> Result<(), Stop>
         requires inside { at < (tx_sight self.old).count }
         ensures uses { UsesWords tx_sight TurnsInto 0 1 result self.old self.new }
+        ensures pages { KeepsPages self.old self.new }
         ensures writes { MakesWrite tx_sight at value result self.old self.new }
         ensures shown { Shows tx_sight result self.old self.new (with_word at value) }
         ensures why { IfErr result (StopsWriting at self.old self.new) }
         ensures refused { CountsRefusal result self.old self.new }
-        ensures pages { KeepsPages self.old self.new }
     {
         if is_wide(&self.writes, at) {
             self.stopped = Some(Stop::Wide);
@@ -128,11 +128,11 @@ impl<'a, S, X, K, P: TransactionRule<S, X, K>> Words for TxOver<'a, S, X, K, P, 
         if let Err(BadLock { lock, seen }) = own_lock(
             self.stm,
             &mut self.seat,
+            &mut self.held,
+            lock,
             self.numbers.thread,
             &mut self.snapshot,
-            lock,
             self.lists.items.as_slice(),
-            &mut self.held,
         ) {
             let stop = Stop::Conflict { lock, seen };
             self.stopped = Some(stop);

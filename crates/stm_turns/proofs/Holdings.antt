@@ -3,7 +3,6 @@ use Rattle.std.proofs.Common.{◌≡◌, ◌≢◌, ℕ, ◌<◌, ◌≤◌, ◌
 use Rattle.std.specs.Prelude.{Option, Some, None}
 use mathlib.Core.Option.{Option as Maybe, some}
 use lib.ListN.{get_elem?}
-use Rattle.std.proofs.lemmas.Bool.{false≢true}
 use Rattle.dude_base.specs.Records.{RedoRecord}
 use Rattle.pmem_trait.specs.Sights.{Sight}
 use Rattle.pmem_trait.specs.declared.medium.Medium.{Ghosts}
@@ -21,8 +20,8 @@ use Rattle.core_table.specs.Known.{Known, view_of, beside_of}
 use Rattle.core_table.specs.Rules.{Acts, Holds, Foreseen}
 use Rattle.stm_slots.specs.KnownLists.{BackLists, LawfulLists, lists}
 use Rattle.stm_slots.specs.Records.{HasRecord, LacksRecord, IsReached, writes_in}
-use Rattle.stm_slots.proofs.JoinedRecords.{has_behind, has_either}
-use Rattle.std.proofs.lemmas.List.Elements.{All-head, All-tail}
+use Rattle.stm_slots.proofs.JoinedRecords.{has_behind}
+use Rattle.stm_slots.proofs.KeptBacks.{both_have}
 use mathlib.Core.Logic.{dite}
 use native.Mathlib.Decide.{dec_lt}
 use Rattle.stm_slots.proofs.Queueing.{way_to, place_here}
@@ -48,7 +47,7 @@ use Rattle.stm_slots.specs.declared.slot.Slot.{Slot}
 use Rattle.stm_slots.specs.declared.slot.Slot.TheVariants.{Empty, Record, Home}
 use Rattle.stm_slots.specs.declared.opening.Opening.{Opening}
 use Rattle.stm_slots.proofs.Following.{follows_same}
-use Rattle.stm_slots.proofs.Acting.{give_acts, look_acts, peek_acts, see_acts, put_back_acts, empty_acts, durable_acts, reproduced_acts, kept_by, now_lists}
+use Rattle.stm_slots.proofs.Acting.{give_acts, look_acts, peek_acts, see_acts, put_back_acts, empty_acts, durable_acts, reproduced_acts, kept_by, now_lists, same_hands}
 
 pub front_of : {S : Type 0} (c l : List (ℕ × S)) (k : ℕ) (x : S) → c ≡ (k, x) ∷ l → c ≡ (k, x) ∷ rest c
 front_of c l k x e = e ∙ ap (λ ys. (k, x) ∷ ys) (sym (ap rest e))
@@ -71,13 +70,6 @@ module _ {M : Type 0} {ghosts : Ghosts M} (sight : M → Sight) (o : Opening M g
       → Acts (fact_of sight o) z e id me more
   told_with e id me then more acts by c xs homes k allowed at f = let a = acts c xs homes k allowed at f in (a.0, a.1, a.2, a.3, (λ told. by c xs homes k allowed at f (record { view = view_after z e me.0.view (found c (name z e me.0.view)); beside = a.1; made = e ∷ me.0.made }, carried_after me.1 a.0) (a.4 told)))
 
-  all_have : (rs ps : List RedoRecord) (n : ℕ) → All (λ r. HasRecord rs r.number × (writes_in rs r.number ≡ r.writes)) ps → HasRecord ps n → HasRecord rs n
-  all_have rs [] n all has = absurd (false≢true has)
-  all_have rs (p ∷ ps) n all has = ⊎_elim
-      (λ e. subst (HasRecord rs) e (All-head (λ r. HasRecord rs r.number × (writes_in rs r.number ≡ r.writes)) p ps all).0)
-      (λ more. all_have rs ps n (All-tail (λ r. HasRecord rs r.number × (writes_in rs r.number ≡ r.writes)) p ps all) more)
-      (has_either p ps n has)
-
   -- a full box of a thread has no less a number than the one in front
   in_front : (boxes : List ℕ) (t j count : ℕ) → IsQueue z boxes t j count → (i n : ℕ) → i < z.boxes → get_elem? boxes (box_of z t i) ≡ some n → 0 < n → (0 < get_or boxes (box_of z t j) 0) × (get_or boxes (box_of z t j) 0 ≤ n)
   in_front boxes t j count queue i n lt at pos =
@@ -98,15 +90,8 @@ module _ {M : Type 0} {ghosts : Ghosts M} (sight : M → Sight) (o : Opening M g
       (λ open_one. absurd (omega arith))
       (⊎_elim
       (λ b. inr (let e : Some b.0 ≡ Some t = sym b.2 ∙ mine in let u_is : b.0 ≡ t = cc in in_front s.boxes t j count queue b.1 n b.3 (subst (λ (u : ℕ). get_elem? s.boxes (box_of z u b.1) ≡ some n) u_is b.4) pos))
-      (λ p. inl (all_have l.records s.persisted n ls.persisted p)))
+      (λ p. inl (both_have l.records s.persisted n ls.persisted p)))
       d.1
-
-  same_hands : (a b : Hands) → Some a ≡ Some b → a ≡ b
-  same_hands a b e = ap get e
-    where
-      get : Option Hands → Hands
-      get None = a
-      get (Some h) = h
 
   -- the same is known of an equal seat
   abbrev pub holding_on : (k k2 : Known Beside) (h : TheHome M ghosts) (hand : List Held) → k2 ≡ k → Holding sight o k h hand → Holding sight o k2 h hand

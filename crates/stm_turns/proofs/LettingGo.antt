@@ -15,13 +15,13 @@ use Rattle.stm_slots.specs.declared.home.Home.{Home as TheHome}
 use Rattle.stm_slots.specs.declared.slot.Slot.{Slot}
 use Rattle.stm_slots.specs.declared.opening.Opening.{Opening}
 use Rattle.stm_slots.proofs.Taken.{contains_here, contains_none}
-use Rattle.stm_turns.specs.Bundles.{EmptiesFirst, HasEmptied, HasPutBack, IsLetting, MayEmpty, MayEmptyFirst, MayPutBack, MayPutFirst, PutsFirst, WentOver, slots_let}
+use Rattle.stm_turns.specs.Bundles.{EmptiesFirst, HasEmptied, HasPutBack, IsLetting, MayEmpty, MayEmptyFirst, MayPutBack, WentOver, slots_let}
 use Rattle.stm_turns.specs.Gathered.{AreThreads}
 use Rattle.stm_turns.specs.Holding.{Held, slots_out}
 use Rattle.stm_turns.specs.Turns.{HandedBelow, Stepped, settled_view}
 use Rattle.stm_turns.proofs.HeldRecords.{threads_count}
 use Rattle.stm_turns.proofs.Holdings.{holding_on}
-use Rattle.stm_turns.proofs.Seats.{laid_belongs}
+use Rattle.stm_turns.proofs.Seats.{MayPutFirst, laid_belongs}
 
 module _ {M : Type 0} {ghosts : Ghosts M} (sight : M → Sight) (t : TableSight (Opening M ghosts)) where
   abbrev z : Setup
@@ -29,6 +29,11 @@ module _ {M : Type 0} {ghosts : Ghosts M} (sight : M → Sight) (t : TableSight 
 
   abbrev TurnSeat : Type 0
   TurnSeat = Seat (Slot M ghosts) (Known Beside)
+
+  -- whichever record was taken first, from this place of the thread, it was put back
+  abbrev pub PutsFirst : TurnSeat → TurnSeat → TheHome M ghosts → ℕ → ℕ → Type 0
+  PutsFirst old new h thread place = (first : Held) (left : List Held) (places : List ℕ) → MayPutBack sight t old h places (first ∷ left) (slots_let sight t (first ∷ left)) → first.thread ≡ thread → first.place ≡ place
+      → HasPutBack sight t 1 old new h (set places thread (place_at z place 1)) left
 
   pub went_then : (old mid new : TurnSeat) → WentOver sight t old mid → WentOver sight t mid new → WentOver sight t old new
   went_then old mid new a b = record { id = b.id ∙ a.id; view = b.view ∙ a.view; handed = λ n below. b.handed n (a.handed n below) }
@@ -96,7 +101,7 @@ module _ {M : Type 0} {ghosts : Ghosts M} (sight : M → Sight) (t : TableSight 
     may_put_next [] are lt e = absurd (let same : i ≡ count = are in omega arith)
     may_put_next (p ∷ left) are lt e = record { first = p; left = left; places = places; may = e.may; thread_is = sym are.0; place_is = e.may.fronts.1 ∙ ap (λ (u : ℕ). get_or places u 0) (sym are.0) }
 
-    pub put_next : (new : TurnSeat) (left : List Held) → AreThreads threads count i left → i < count → HasPutBack sight t i old mid h places left → PutsFirst sight t mid new h (get_or threads i 0) (get_or places (get_or threads i 0) 0)
+    pub put_next : (new : TurnSeat) (left : List Held) → AreThreads threads count i left → i < count → HasPutBack sight t i old mid h places left → PutsFirst mid new h (get_or threads i 0) (get_or places (get_or threads i 0) 0)
         → (rest_left : List Held) × AreThreads threads count (i + 1) rest_left × HasPutBack sight t (i + 1) old new h (set places (get_or threads i 0) (place_at z (get_or places (get_or threads i 0) 0) 1)) rest_left
     put_next new [] are lt e step = absurd (let same : i ≡ count = are in omega arith)
     put_next new (p ∷ left) are lt e step = let s = step p left places e.may (sym are.0) (e.may.fronts.1 ∙ ap (λ (u : ℕ). get_or places u 0) (sym are.0)) in

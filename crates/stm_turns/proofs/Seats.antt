@@ -37,7 +37,7 @@ use Rattle.stm_turns.specs.Holding.{Held, IsHeld, IsInHand, box_held, boxes_held
 use Rattle.stm_turns.proofs.HeldRecords.{box_in, boxes_push, but_last_push, held_of, leaves_first, places_after}
 use Rattle.stm_turns.specs.Told.{HasGrown, Went, WentHanded, WentLacking, SawFront, SawNext, Raised, boxes_in, but_last}
 use Rattle.stm_turns.specs.Turns.{Advanced, HasTaken, HasShown, HandedBelow, raised_view, settled_view, InTurn, FrontRecord, Stepped}
-use Rattle.stm_turns.specs.Bundles.{HasEmptied, HasFound, HasPutBack, IsLetting, MayEmpty, MayEmptyFirst, MayPutBack, MayPutFirst, slots_let}
+use Rattle.stm_turns.specs.Bundles.{HasEmptied, HasFound, HasPutBack, IsLetting, MayEmpty, MayEmptyFirst, MayPutBack, slots_let}
 use Rattle.stm_turns.specs.Gathered.{AreFronts}
 use Rattle.stm_slots.specs.declared.home.Home.{Home as TheHome}
 use Rattle.stm_slots.specs.declared.slot.Slot.{Slot}
@@ -466,8 +466,17 @@ module _ {M : Type 0} {ghosts : Ghosts M} (sight : M → Sight) (t : TableSight 
           fresh = λ some. refl;
         }
 
-  -- the record that was taken first may be put back
-  pub may_put_first : (old : TurnSeat) (h : TheHome M ghosts) (thread place : ℕ) → (q : MayPutFirst sight t old h thread place)
+  -- The record that was taken first is from this place of the thread, and may be put back
+  pub record MayPutFirst (seat : TurnSeat) (h : TheHome M ghosts) (thread place : ℕ) : Type 0 where
+    pub first : Held
+    pub left : List Held
+    pub places : List ℕ
+    pub may : MayPutBack sight t seat h places (first ∷ left) (slots_let sight t (first ∷ left))
+    pub thread_is : first.thread ≡ thread
+    pub place_is : first.place ≡ place
+
+  -- it is a step of the turn
+  pub may_put_first : (old : TurnSeat) (h : TheHome M ghosts) (thread place : ℕ) → (q : MayPutFirst old h thread place)
       → MayAct (fact_of sight) t (see_full thread place) old (WentLacking sight t.key (see_full thread place) h (but_last (boxes_in old.me.0.beside.turn)) (rest old.me.1) old.me)
   may_put_first old h thread place q =
       let p = q.first in let all : List Held = p ∷ q.left in let i = q.may.letting.holding in

@@ -1,5 +1,5 @@
 -- The seat with the turn and a gathering: what persists, and what of it stays.
-use Rattle.std.specs.Prelude.{◌≡◌, ◌≢◌, ℕ, ◌+◌, ◌<◌, Bool, true, false, List, [], ◌∷◌, ◌++◌, Option, Result, Ok, Err, slice_set}
+use Rattle.std.specs.Prelude.{◌≡◌, ◌≢◌, ℕ, ◌+◌, ◌<◌, Bool, true, false, List, [], ◌∷◌, ◌++◌, Option, Result, Ok, Err}
 use Rattle.std.specs.List.{Contains}
 use Rattle.dude_base.specs.Records.{RedoBundle, RedoRecord}
 use Rattle.pmem_trait.specs.Sights.{Sight}
@@ -16,7 +16,7 @@ use Rattle.stm_slots.specs.KnownLists.{lists}
 use Rattle.stm_slots.specs.Records.{HasRecord, LacksRecord, writes_in}
 use Rattle.stm_slots.specs.Beside.{Beside}
 use Rattle.stm_slots.specs.Opening.{setup_of}
-use Rattle.stm_slots.specs.Queues.{back_slot, place_at}
+use Rattle.stm_slots.specs.Queues.{back_slot}
 use Rattle.stm_slots.specs.declared.home.Home.{Home as TheHome}
 use Rattle.stm_slots.specs.declared.slot.Slot.{Slot}
 use Rattle.stm_slots.specs.declared.slot.Slot.TheVariants.{Empty, Record}
@@ -157,20 +157,6 @@ module _ {M : Type 0} {ghosts : Ghosts M} (sight : M → Sight) (t : TableSight 
   -- whichever record was taken first, from this thread, its box was emptied
   abbrev pub EmptiesFirst : Seat (Slot M ghosts) (Known Beside) → Seat (Slot M ghosts) (Known Beside) → TheHome M ghosts → TheHome M ghosts → ℕ → Type 0
   EmptiesFirst old new h h2 thread = (first : Held) (left : List Held) → MayEmpty old h (first ∷ left) (slots_let (first ∷ left)) → first.thread ≡ thread → HasEmptied 1 old new h2 left
-
-  -- The record that was taken first is from this place of the thread, and may be put back
-  pub record MayPutFirst (seat : Seat (Slot M ghosts) (Known Beside)) (h : TheHome M ghosts) (thread place : ℕ) : Type 0 where
-    pub first : Held
-    pub left : List Held
-    pub places : List ℕ
-    pub may : MayPutBack seat h places (first ∷ left) (slots_let (first ∷ left))
-    pub thread_is : first.thread ≡ thread
-    pub place_is : first.place ≡ place
-
-  -- whichever record was taken first, from this place of the thread, it was put back
-  abbrev pub PutsFirst : Seat (Slot M ghosts) (Known Beside) → Seat (Slot M ghosts) (Known Beside) → TheHome M ghosts → ℕ → ℕ → Type 0
-  PutsFirst old new h thread place = (first : Held) (left : List Held) (places : List ℕ) → MayPutBack old h places (first ∷ left) (slots_let (first ∷ left)) → first.thread ≡ thread → first.place ≡ place
-      → HasPutBack 1 old new h (slice_set places thread (place_at (setup_of sight t.key) place 1)) left
 
   -- All records of a gathering were handed over, and their boxes may be emptied
   pub record MayEmptyAll (seat : Seat (Slot M ghosts) (Known Beside)) (h : TheHome M ghosts) (g : Gathering) : Type 0 where

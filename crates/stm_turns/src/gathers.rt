@@ -47,16 +47,16 @@ pub fn look_at_all<M: Medium>(
 /// `above` is none to take.
 fn look_where_empty<M: Medium>(
     events: &Events<M>,
-    seat: &mut SlotSeat<M>,
     home: &Home<M>,
+    seat: &mut SlotSeat<M>,
     thread: u64,
     place: u64,
     above: u64,
     front: u64,
 ) -> u64
-    requires turn { HasHome M.sight events.now seat.old home.now }
     requires thread { thread < events.now.setup.threads }
     requires place { place < events.now.setup.boxes }
+    requires turn { HasHome M.sight events.now seat.old home.now }
     ensures step { SteppedOn M.sight events.now seat.old seat.new home.now home.now }
     ensures found { FindsWhereNone events.now.setup thread place above front
         seat.old.me.0.view seat.new.me.0.view result }
@@ -88,7 +88,7 @@ pub fn look_again<M: Medium>(
 {
     for thread in 0..events.threads() {
         let (place, front) = (places[thread as usize], fronts[thread as usize]);
-        fronts[thread as usize] = look_where_empty(events, seat, home, thread, place, above, front);
+        fronts[thread as usize] = look_where_empty(events, home, seat, thread, place, above, front);
     }
 }
 

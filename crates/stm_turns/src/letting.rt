@@ -2,7 +2,7 @@
 
 ghost use Rattle.dude_base.specs.declared.limits.TheConstants.{MAX_SPAN};
 ghost use Rattle.std.specs.Prelude.{◌≡◌, ◌+◌, ◌≤◌, []};
-ghost use Rattle.stm_turns.specs.Bundles.{EmptiesFirst, MayEmptyAll, MayEmptyFirst, MayPutAllBack, MayPutFirst, PutsFirst};
+ghost use Rattle.stm_turns.specs.Bundles.{EmptiesFirst, MayEmptyAll, MayEmptyFirst, MayPutAllBack};
 ghost use Rattle.stm_turns.specs.Turns.{Stepped};
 
 use crate::gathering::Gathering;
@@ -50,21 +50,6 @@ pub fn empty_all<M: Medium>(
     }
 }
 
-/// Puts the record that was taken first back into its box.
-fn put_first<M: Medium>(
-    events: &Events<M>,
-    seat: &mut SlotSeat<M>,
-    home: &Home<M>,
-    thread: u64,
-    place: u64,
-)
-    requires may { MayPutFirst M.sight events.now seat.old home.now thread place }
-    ensures put { PutsFirst M.sight events.now seat.old seat.new home.now thread place }
-{
-    let at = events.box_place(thread, place);
-    events.load_by::<Brand, (u64, u64, &Home<M>)>(seat, at, &(thread, place, home));
-}
-
 /// Puts the records in hand back into their boxes.
 pub fn put_all_back<M: Medium>(
     events: &Events<M>,
@@ -81,7 +66,8 @@ pub fn put_all_back<M: Medium>(
     for number in 0..gathering.count {
         let thread = gathering.threads[number as usize];
         let place = places[thread as usize];
-        put_first(events, seat, home, thread, place);
+        let at = events.box_place(thread, place);
+        events.load_by::<Brand, (u64, u64, &Home<M>)>(seat, at, &(thread, place, home));
         places[thread as usize] = next_place(place, events.boxes());
     }
 }

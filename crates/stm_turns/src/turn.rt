@@ -9,6 +9,7 @@ ghost use Rattle.stm_slots.specs.Lists.{IsSettled};
 ghost use Rattle.stm_turns.specs.Turns.{HasTaken, InTurn, IsBare, IsOthers};
 
 use crate::slots::{SlotSeat, lay};
+use core_table::change::Change;
 use core_table::places::TURN;
 use pmem_trait::Medium;
 use std::marker::Brand;
@@ -32,7 +33,11 @@ pub fn take_turn<M: Medium>(
     ensures left { OnErr result (IsBare events.now seat.old seat.new) }
 {
     let slot = events.box_count();
-    let seen = events.exchange_by::<Brand, ()>(seat, TURN, 0, thread + 1, &());
+    let had = Change::Exchange {
+        from: 0,
+        to: thread + 1,
+    };
+    let seen = events.change_by::<Brand, ()>(seat, TURN, had, &());
     if seen != 0 {
         return Err(seen);
     }

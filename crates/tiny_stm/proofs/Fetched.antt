@@ -95,15 +95,7 @@ module _ {M : Type 0} {ghosts : Ghosts M} (sight : M → Sight) (t : TableSight 
 
   module _ (old took gave new : TurnSeat) (first last : TheHome M ghosts) (taken : HasTaken sight t old took first) (steps : KeepsTurn sight t took gave last) where
     abbrev pub had_turn : (failed : Bool) → IsAfter t (give_turn failed) gave new 0 → HadTurn sight t (KeepsTurn sight t) failed old new
-    had_turn failed is_given = record {
-      took = took;
-      first = first;
-      taken = taken;
-      gave = gave;
-      last = last;
-      steps = steps;
-      is_given = is_given;
-    }
+    had_turn failed is_given = record { took = took; first = first; taken = taken; gave = gave; last = last; steps = steps; is_given = is_given }
 
     turn_of : (failed : Bool) → IsAfter t (give_turn failed) gave new 0 → IsTurnOf sight t failed old new
     turn_of failed is_given = ap turn_view is_given ∙ (ap (λ (v : View). turn_view (view_after t.setup (give_turn failed) v 0)) steps.view ∙ ap (λ (v : View). turn_view (view_after t.setup (give_turn failed) v 0)) taken.is_after)

@@ -26,9 +26,9 @@ pub record KeepsWork {X : Type 0} (p q : PassSight X) : Type 0 where
   pub entries : (pass_view q).entries ≡ (pass_view p).entries
   pub draws : (pass_view q).draws ≡ (pass_view p).draws
   pub drawn : (pass_view q).drawn ≡ (pass_view p).drawn
+  pub durable : (pass_view p).turn.durable ≤ (pass_view q).turn.durable
   pub tx : (pass_view q).tx ≡ (pass_view p).tx
   pub box : (pass_view q).box ≡ (pass_view p).box
-  pub durable : (pass_view p).turn.durable ≤ (pass_view q).turn.durable
 
 -- Its numbers after a pump, behind which n is the durable number that it knows: one that is held counts as a refusal, and one that is behind
 -- what the pass knows

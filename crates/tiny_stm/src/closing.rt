@@ -136,9 +136,9 @@ fn copy_page<M: Medium>(
     page: usize,
     words: &mut [u64],
 )
-    requires full { IsFull table.now.words }
-    requires frame { cells + PAGE_WORDS ≤ length (slots_items table.now.words) }
     requires page { page * PAGE_WORDS + PAGE_WORDS ≤ length words.old }
+    requires frame { cells + PAGE_WORDS ≤ length (slots_items table.now.words) }
+    requires full { IsFull table.now.words }
     ensures { IsPageCopied (slots_items table.now.words) cells (page * PAGE_WORDS) PAGE_WORDS
         words.old words.new }
 {

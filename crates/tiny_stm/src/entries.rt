@@ -7,6 +7,7 @@ ghost use Rattle.stm_slots.specs.Turns.{map_evicted};
 ghost use Rattle.tiny_stm.specs.Frames.{IsUnpinned, MayMakeRoom};
 ghost use Rattle.tiny_stm.specs.Paging.{FindsEntry, HandMoved, IsMapOf, Paged};
 
+use core_table::change::Change;
 use core_table::places::ENTRY;
 use pmem_trait::Medium;
 use std::marker::Brand;
@@ -53,13 +54,12 @@ pub fn evict<M: Medium>(
     ensures map { IsMapOf events.now.setup home.new.pager }
 {
     let place = events.entry_place(page);
-    let seen = events.exchange_by::<Brand, (u64, &Home<M>)>(
-        seat,
-        place,
-        kept / ENTRY * ENTRY,
-        0,
-        &(page, &*home),
-    );
+    let unpinned = kept / ENTRY * ENTRY;
+    let absent = Change::Exchange {
+        from: unpinned,
+        to: 0,
+    };
+    let seen = events.change_by::<Brand, (u64, &Home<M>)>(seat, place, absent, &(page, &*home));
     if seen == kept {
         home.pager.drop_page(page);
     }

@@ -19,8 +19,8 @@ fn evict_next<M: Medium>(
     home: &mut Home<M>,
     wanted: u64,
 ) -> Result<u64, PinnedPage>
-    requires room { MayMakeRoom M.sight events.now wanted seat.old home.old }
     requires full { ¬ HasFree home.old.pager }
+    requires room { MayMakeRoom M.sight events.now wanted seat.old home.old }
     ensures room { MadeRoom M.sight events.now wanted seat.old seat.new home.old home.new }
     ensures ok { IfOk result (IsFree home.new.pager) }
     ensures err { IfErr result (FoundPinned home.old.pager home.new.pager

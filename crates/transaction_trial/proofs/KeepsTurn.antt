@@ -20,10 +20,10 @@ record IsLike (v w : View) : Type 0 where
   pub part : w.part ≡ v.part
   pub box : w.box ≡ v.box
   pub entries : w.entries ≡ v.entries
+  pub pins : w.paging.pins ≡ v.paging.pins
   pub drawn : w.drawn ≡ v.drawn
   pub draws : w.draws ≡ v.draws
   pub tx : w.tx ≡ v.tx
-  pub pins : w.paging.pins ≡ v.paging.pins
   pub durable : w.turn.durable ≡ v.turn.durable
   pub met_fault : w.turn.met_fault ≡ v.turn.met_fault
 

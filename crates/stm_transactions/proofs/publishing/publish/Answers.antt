@@ -1,7 +1,7 @@
 use Rattle.std.proofs.Common.{ap, ◌∙◌}
 use Rattle.core_events.specs.Views.{View}
 use Rattle.core_events.specs.Events.{next_box}
-use Rattle.stm_transactions.specs.CommitEnds.{about_of}
+use Rattle.core_table.specs.Abouts.{about_of}
 use Rattle.stm_transactions.proofs.BoxesPosted.{gives_behind, has_still, stays_between}
 use Rattle.stm_transactions.proofs.Pins.{stays_on}
 use Rattle.stm_transactions.proofs.Publishes.{draw_may, may_decide}

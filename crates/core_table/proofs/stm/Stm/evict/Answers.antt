@@ -1,5 +1,5 @@
 use Rattle.std.proofs.Common.{refl}
 use Rattle.core_table.proofs.stm.Stm.evict.Goals as goal
 
-pub exchange_as-requires-clause-word : goal.exchange_as-requires-clause-word
-exchange_as-requires-clause-word g c = λ n told. rw c.requires.kept refl
+pub change_as-requires-clause-word : goal.change_as-requires-clause-word
+change_as-requires-clause-word g c = λ n told. rw c.requires.kept refl

@@ -1,5 +1,5 @@
 use Rattle.core_events.specs.Events.{number}
 use Rattle.core_table.proofs.stm.Stm.number.Given as goal
 
-abbrev pub ghosts-add_as : goal.ghosts-add_as
-ghosts-add_as g a = record { setup = a.self.now.setup; event = number }
+abbrev pub ghosts-change_as : goal.ghosts-change_as
+ghosts-change_as g a = record { setup = a.self.now.setup; event = number }

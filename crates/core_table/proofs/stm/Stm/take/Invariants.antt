@@ -1,5 +1,5 @@
 use Rattle.core_events.specs.Events.{take}
 use Rattle.core_table.proofs.stm.Stm.take.Given as goal
 
-abbrev pub ghosts-exchange_as : goal.ghosts-exchange_as
-ghosts-exchange_as g a = record { setup = a.self.now.setup; event = take a._about.now }
+abbrev pub ghosts-change_as : goal.ghosts-change_as
+ghosts-change_as g a = record { setup = a.self.now.setup; event = take a._about.now }

@@ -1,5 +1,5 @@
 use Rattle.core_events.specs.Events.{unpin}
 use Rattle.core_table.proofs.stm.Stm.unpin.Given as goal
 
-abbrev pub ghosts-subtract_as : goal.ghosts-subtract_as
-ghosts-subtract_as g a = record { setup = a.self.now.setup; event = unpin a._about.now }
+abbrev pub ghosts-change_as : goal.ghosts-change_as
+ghosts-change_as g a = record { setup = a.self.now.setup; event = unpin a._about.now }

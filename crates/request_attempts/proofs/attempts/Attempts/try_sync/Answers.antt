@@ -5,7 +5,7 @@ use Rattle.request_attempts.proofs.attempts.Attempts.try_sync.Goals as goal
 pub returns-in-Ok-2 : goal.returns-in-Ok-2
 returns-in-Ok-2 g c =
     let h = c.in-Ok.ensures.ok in
-    let last = h.keeps.last in
+    let last = h.keeps.pass.last in
     let is = c.last.ensures in
     let under = c.if-durable-last.false in
     pumped_again c.args.self.now.stm.now.events c.args.p.now c.pump.new.p c.requires.rests.numbers.few c.in-Ok.durable h (omega arith)
