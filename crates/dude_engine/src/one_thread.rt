@@ -1,9 +1,9 @@
 //! The requests of files, run on one thread.
 
 ghost use Rattle.back_store.specs.BackView.{sight_of};
-ghost use Rattle.dude_engine.specs.OneThread.{RunsFiles};
+ghost use Rattle.dude_engine.specs.OneThread.{RunsFiles, RunsOnOneThread};
 ghost use Rattle.dude_engine.specs.Opening.{Opening};
-ghost use Rattle.dude_engine.specs.Plain.{AnswersFiles, EndsAs, IsOpeningOf, RecoversOnTheRun, TellsSyncs};
+ghost use Rattle.dude_engine.specs.Plain.{IsOpeningOf};
 ghost use Rattle.dude_engine.specs.Requests.{AreInRange, HasNumberEach};
 ghost use Rattle.dude_engine.specs.Running.{end_by};
 ghost use Rattle.dude_engine.specs.Shipping.{KeepsUp, Ships};
@@ -34,15 +34,7 @@ pub fn plain<M: Medium>(alloc: Global, opened: Opened<M>, files: &[Vec<Request>]
     requires rings { length files.now ≤ opened.sizes.rings }
     requires in_range { AreInRange (map (λ f. f.items) files.now) }
     requires numbers { HasNumberEach opened.number (map (λ f. f.items) files.now) }
-    ensures replies { (opening : Opening) → IsOpeningOf opened opening
-        → AnswersFiles opening (map (λ f. f.items) files.now) result.done.items }
-    ensures syncs { TellsSyncs opened.number result.done.items (sight_of opened.back)
-        (M.sight result.medium) }
-    ensures moments { (opening : Opening) → IsOpeningOf opened opening
-        → RecoversOnTheRun opening opened.words.items result.done.items (sight_of opened.back)
-        (M.sight result.medium) }
-    ensures end { EndsAs opened (map (λ f. f.items) files.now) result.done.items result.end
-        result.last (M.sight result.medium) }
+    ensures { RunsOnOneThread opened (map (λ f. f.items) files.now) result }
 {
     let shipped = run_files(alloc, opened, files, KeptBundles::none(alloc));
     shipped.ran
@@ -56,15 +48,7 @@ pub fn shipped<M: Medium>(alloc: Global, opened: Opened<M>, files: &[Vec<Request
     requires rings { length files.now ≤ opened.sizes.rings }
     requires in_range { AreInRange (map (λ f. f.items) files.now) }
     requires numbers { HasNumberEach opened.number (map (λ f. f.items) files.now) }
-    ensures replies { (opening : Opening) → IsOpeningOf opened opening
-        → AnswersFiles opening (map (λ f. f.items) files.now) result.ran.done.items }
-    ensures syncs { TellsSyncs opened.number result.ran.done.items (sight_of opened.back)
-        (M.sight result.ran.medium) }
-    ensures moments { (opening : Opening) → IsOpeningOf opened opening
-        → RecoversOnTheRun opening opened.words.items result.ran.done.items (sight_of opened.back)
-        (M.sight result.ran.medium) }
-    ensures end { EndsAs opened (map (λ f. f.items) files.now) result.ran.done.items result.ran.end
-        result.ran.last (M.sight result.ran.medium) }
+    ensures runs { RunsOnOneThread opened (map (λ f. f.items) files.now) result.ran }
     ensures packets { (opening : Opening) → IsOpeningOf opened opening
         → Ships opening opened.words.items result.ran.done.items result.packets.items }
     ensures persisted { (opening : Opening) → IsOpeningOf opened opening
@@ -88,8 +72,7 @@ fn run_files<M: Medium>(
     requires in_range { AreInRange (map (λ f. f.items) files.now) }
     requires numbers { HasNumberEach opened.number (map (λ f. f.items) files.now) }
     requires none { kept_bundles packets ≡ [] }
-    ensures { RunsFiles opened (map (λ f. f.items) files.now) (are_kept packets)
-        result.ran.done.items result.ran.end result.ran.last (M.sight result.ran.medium)
+    ensures { RunsFiles opened (map (λ f. f.items) files.now) (are_kept packets) result.ran
         result.packets.items }
 {
     let number = opened.number;

@@ -20,7 +20,7 @@ pub err_holds : {X E P : Type 0} (result : Result X E) (o : Option X) → o ≡ 
 err_holds (Ok x) o is none holds = absurd (let no : Some x ≡ None = sym is ∙ none in cc)
 err_holds (Err e) o is none holds = holds
 
-pub ok_holds : {X E : Type 0} (P : X → Type 0) (x : X) (result : Result X E) (o : Option X) → o ≡ result_ok result → o ≡ Some x → IfOk result P → P x
+ok_holds : {X E : Type 0} (P : X → Type 0) (x : X) (result : Result X E) (o : Option X) → o ≡ result_ok result → o ≡ Some x → IfOk result P → P x
 ok_holds P x (Ok y) o is some holds =
     let both : Some y ≡ Some x = sym is ∙ some in
     let same : y ≡ x = cc in
@@ -63,7 +63,11 @@ module _ (s : Sizes) (bytes words : List ℕ) (cells : ℕ) (counts : CountsCell
   pub no_record : ¬ IsRecordSlice slice → BeginsWithNone s bytes
   no_record not b begins = not (record { whole = holds_same same begins.complete.whole; size = size ∙ ap (λ (n : ℕ). 8 * n) (sym slice_cells) })
 
-  module _ (r : RedoBundle) (decoded : IsBundleIn slice r) where
+  -- what a call decoded
+  module _ (r : RedoBundle) {E : Type 0} (result : Result RedoBundle E) (o : Option RedoBundle) (value : o ≡ result_ok result) (some : o ≡ Some r) (ok : IfOk result (IsBundleIn slice)) where
+    decoded : IsBundleIn slice r
+    decoded = ok_holds (IsBundleIn slice) r result o value some ok
+
     bundle_is : r ≡ record_of (cells_in bytes)
     bundle_is = decoded.1 ∙ sym (record_same back)
 

@@ -15,17 +15,13 @@ use Rattle.dude_follow.specs.Chain.{AppliesChain, StopsBefore}
 use Rattle.dude_follow.specs.Replica.{replica_back, replica_medium, replica_sight}
 use Rattle.dude_follow.specs.Taking.{FollowerState, Takes}
 
--- the medium of a follower
-abbrev pub follower_medium : {M : Type 0} {ghosts : Ghosts M} → Follower M ghosts → M
-follower_medium f = replica_medium f.replica
-
--- what clauses see of the medium of a follower
-abbrev pub follower_sight : {M : Type 0} {ghosts : Ghosts M} → Follower M ghosts → Sight
-follower_sight f = replica_sight f.replica
-
 -- the back of a follower, without its medium; it is dead where an earlier call on the medium failed
 abbrev pub follower_back : {M : Type 0} {ghosts : Ghosts M} → Follower M ghosts → BackState
 follower_back f = replica_back f.replica
+
+-- the sizes of the image that a follower is on
+abbrev pub follower_sizes : {M : Type 0} {ghosts : Ghosts M} → Follower M ghosts → Sizes
+follower_sizes f = (follower_back f).log.sizes
 
 -- the number that a follower has reached, which is that of its last reproduction, and the packets that it keeps
 abbrev pub follower_state : {M : Type 0} {ghosts : Ghosts M} → Follower M ghosts → FollowerState
@@ -35,9 +31,13 @@ follower_state f = record { number = (follower_back f).log.reproduced; kept = f.
 abbrev pub follower_room : {M : Type 0} {ghosts : Ghosts M} → Follower M ghosts → ℕ
 follower_room f = f.buffer.room
 
--- the sizes of the image that a follower is on
-abbrev pub follower_sizes : {M : Type 0} {ghosts : Ghosts M} → Follower M ghosts → Sizes
-follower_sizes f = (follower_back f).log.sizes
+-- the medium of a follower
+abbrev pub follower_medium : {M : Type 0} {ghosts : Ghosts M} → Follower M ghosts → M
+follower_medium f = replica_medium f.replica
+
+-- what clauses see of the medium of a follower
+abbrev pub follower_sight : {M : Type 0} {ghosts : Ghosts M} → Follower M ghosts → Sight
+follower_sight f = replica_sight f.replica
 
 -- A follower that starts on an opened image keeps nothing, and has reached the image's number.
 pub record StartsOn {M : Type 0} {ghosts : Ghosts M} (opened : Opened M ghosts) (room : ℕ) (f : Follower M ghosts) : Type 0 where

@@ -9,10 +9,10 @@ use Rattle.dude_follow.specs.declared.replica.Replica.{Replica}
 abbrev pub replica_medium : {M : Type 0} {ghosts : Ghosts M} → Replica M ghosts → M
 replica_medium r = medium_of r.back
 
--- what clauses see of the medium of a replica
-abbrev pub replica_sight : {M : Type 0} {ghosts : Ghosts M} → Replica M ghosts → Sight
-replica_sight {M} {ghosts} r = ghosts.sight (replica_medium r)
-
 -- the back of a replica, without its medium
 abbrev pub replica_back : {M : Type 0} {ghosts : Ghosts M} → Replica M ghosts → BackState
 replica_back r = state_of r.back
+
+-- what clauses see of the medium of a replica
+abbrev pub replica_sight : {M : Type 0} {ghosts : Ghosts M} → Replica M ghosts → Sight
+replica_sight {M} {ghosts} r = ghosts.sight (replica_medium r)

@@ -18,8 +18,8 @@ pub const MAX_KEPT: u64 = 4096;
 pub struct ReorderBuffer {
     pub kept: Vec<Bundle>,
     pub room: u64,
-    ghost few: { vec_len kept ≤ room },
     ghost reserved: { room ≤ vec_capacity kept },
+    ghost few: { vec_len kept ≤ room },
 }
 
 impl ReorderBuffer {

@@ -102,12 +102,12 @@ fn persist<M: Medium>(back: &mut Back<M>, b: &Bundle) -> Result<(), Failed>
 // Announces all that waits.
 fn announce<M: Medium>(back: &mut Back<M>) -> Result<(), Failed>
     requires alive { (state_of back.old).dead ≡ false }
+    ensures number { OnErr result
+        ((state_of back.new).log.reproduced ≡ (state_of back.old).log.reproduced) }
     ensures goes_on { GoesOn (is_ok result) (state_of back.old) (sight_of back.old)
         (state_of back.new) (sight_of back.new) }
     ensures announces { OnOk result ((b : RedoBundle) → WaitsAlone b (state_of back.old)
         → AnnouncesAlone b (state_of back.old) (sight_of back.old) (state_of back.new) (sight_of back.new)) }
-    ensures number { OnErr result
-        ((state_of back.new).log.reproduced ≡ (state_of back.old).log.reproduced) }
     ensures moments { (b : RedoBundle) → WaitsAlone b (state_of back.old)
         → RecoversThrough (b ∷ []) (state_of back.old) (sight_of back.old) (sight_of back.new) }
 {

@@ -142,8 +142,8 @@ impl<M: Medium> RunLog<M> {
     pub fn checkpoint(&mut self, kept: &mut KeptBundles) -> Result<u64, Failed>
         requires alive { IsAlive self.old }
         requires room { HasRoomToKeep kept.old }
-        ensures closes { ClosesRun result self.old kept.old self.new kept.new }
         ensures checkpoints { OnOk result (CheckpointsRun self.old self.new) }
+        ensures closes { ClosesRun result self.old kept.old self.new kept.new }
     {
         self.close(kept)?;
         self.log.checkpoint()

@@ -30,15 +30,17 @@ use Rattle.tiny_stm.specs.Ended.{RecoversUpTo}
 use Rattle.tiny_stm.specs.Started.{IsAtRest, terms_of}
 use Rattle.dude_recover.specs.declared.opened.Opened.{Opened}
 use Rattle.dude_recover.specs.Opened.{IsOpened}
+use Rattle.dude_engine.specs.declared.ran.Ran.{Ran}
 use Rattle.dude_engine.specs.declared.ran.RanEnd.{RanEnd}
 use Rattle.dude_engine.specs.declared.ran.RanEnd.TheVariants.{NoMemory}
 use Rattle.dude_engine.specs.Opening.{Opening as RunOpening, last_of}
 use Rattle.dude_engine.specs.Plain.{IsLastTold, IsOpeningOf, LosesFew, most_lost}
 use Rattle.dude_engine.proofs.Numbering.{greatest_within}
-use Rattle.run_threads.specs.Answers.{AnswersOnThreads, KnowsReads, TellsSyncsOnThreads}
-use Rattle.run_threads.specs.Ends.{AnyNumber, EndsOnThreads, EndsWhole, IsAsOpened, RecoversOnThreads}
+use Rattle.run_threads.specs.Answers.{AnswersOnThreads, KnowsReads}
+use Rattle.run_threads.specs.Ends.{AnyNumber, EndsWhole, IsAsOpened, RecoversOnThreads}
 use Rattle.run_threads.specs.HasRun.{HasRun}
 use Rattle.run_threads.specs.Ran.{RanFrom, Start, StandsAt, opening_of}
+use Rattle.run_threads.specs.RunsOnThreads.{RunsOnThreads}
 use Rattle.run_threads.specs.Starts.{start_of}
 use Rattle.run_threads.proofs.Answering as answering
 use Rattle.run_threads.proofs.Finishing.{unless_whole}
@@ -109,27 +111,23 @@ module _ {M : Type 0} {ghosts : Ghosts M} (o : Opened M ghosts) (run : Run) (thr
       (subst (λ (z : Sizes). P (record { number = o.number; sizes = z; database = opening.database })) (sym is.sizes) holds)
 
   -- ---- what is left of a run from there
-  module _ (files : List (List Request)) (done : List Done) (end : RanEnd) (last : ℕ) (t : Sight) (ran : RanFrom start files done end last t) where
-    pub answers : (opening : RunOpening) → IsOpeningOf o opening → AnswersOnThreads run opening files done s
-    answers opening is = at_opening (λ (x : RunOpening). AnswersOnThreads run x files done s) opening is (record { numbers = ran.numbers; replies = λ k. ran.replies (knows k) opening.database is.stands })
-
-    pub syncs : TellsSyncsOnThreads o.number done s t
-    syncs = ran.syncs
-
-    pub moments : (opening : RunOpening) → IsOpeningOf o opening → RecoversOnThreads opening o.words.items done s t
-    moments opening is = at_opening (λ (x : RunOpening). RecoversOnThreads x o.words.items done s t) opening is (ran.moments opening.database is.stands)
-
-    pub ends : EndsOnThreads o files done end last t
-    ends = record {
+  -- it is what the calls that run on threads ensure
+  pub as_ensured : {files : List (List Request)} (r : Ran M) → RanFrom start files r.done.items r.end r.last (ghosts.sight r.medium) → RunsOnThreads o run files r
+  as_ensured {files} r ran = record {
+    replies = λ opening is. at_opening (λ (x : RunOpening). AnswersOnThreads run x files r.done.items s) opening is (record { numbers = ran.numbers; replies = λ k. ran.replies (knows k) opening.database is.stands });
+    syncs = ran.syncs;
+    moments = λ opening is. at_opening (λ (x : RunOpening). RecoversOnThreads x o.words.items r.done.items s (ghosts.sight r.medium)) opening is (ran.moments opening.database is.stands);
+    end = record {
       len = ran.len;
-      whole = λ whole opening is. at_opening (λ (x : RunOpening). EndsWhole AnyNumber x o.words.items files done last s t) opening is (ran.whole whole opening.database is.stands);
+      whole = λ whole opening is. at_opening (λ (x : RunOpening). EndsWhole AnyNumber x o.words.items files r.done.items r.last s (ghosts.sight r.medium)) opening is (ran.whole whole opening.database is.stands);
       operates = ran.operates;
       from = ran.from;
-      last_told = λ visible opening is. at_opening (λ (x : RunOpening). IsLastTold end x last s t) opening is (ran.last_told visible opening.database);
+      last_told = λ visible opening is. at_opening (λ (x : RunOpening). IsLastTold r.end x r.last s (ghosts.sight r.medium)) opening is (ran.last_told visible opening.database);
       ran = ran.ran;
       cause = ran.cause;
-      few_lost = λ well opening is. at_opening (λ (x : RunOpening). LosesFew (most_lost end) x o.words.items done s t) opening is (ran.few_lost well opening.database is.stands);
-    }
+      few_lost = λ well opening is. at_opening (λ (x : RunOpening). LosesFew (most_lost r.end) x o.words.items r.done.items s (ghosts.sight r.medium)) opening is (ran.few_lost well opening.database is.stands);
+    };
+  }
 
   -- ---- no table was made
   module _ (known : StartsKnown o.back) where

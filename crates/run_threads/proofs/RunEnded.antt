@@ -65,16 +65,16 @@ module _ {M : Type 0} {ghosts : Ghosts M} (sight : M → Sight) (o : Opening M g
     -- some requests are left
     pub set_aside : (c : Closed M ghosts) → KeepsClosed r.closed c → c.back ≡ b → (frames : ℕ) → o.terms.frames ≡ frames → r.end ≡ SetAside → HasSetAside sight o sizes frames files c r.done.items r.counts.items
     set_aside c keeps back frames frames_are aside = record {
-      starts = h.starts;
-      view = h.view;
-      before = r.closed;
-      closed = h.closed;
-      number = keeps.number;
       ended = record {
         ended = rw (keeps.number, back) ended;
         frames_are = frames_are;
         words = rw (keeps.number, keeps.words) h.closed.words;
       };
+      starts = h.starts;
+      view = h.view;
+      before = r.closed;
+      closed = h.closed;
+      number = keeps.number;
       are = h.are;
       rests = h.rests aside;
     }

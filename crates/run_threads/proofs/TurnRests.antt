@@ -24,13 +24,15 @@ module _ {X K : Type 0} (t : TableSight K) (page d : ℕ) (p q : PassSight X) (w
   fetched : KeepsFrame (pass_view q) page → q.numbers ≡ with_turn d p.numbers → HasFetched t page p q
   fetched shown e = record {
     keeps = record {
-      rests = is;
-      part = stays.part;
-      entries = stays.entries;
-      last = ap (λ (f : PassNumbers). f.last) e;
+      pass = record {
+        rests = is;
+        part = stays.part;
+        entries = stays.entries;
+        last = ap (λ (f : PassNumbers). f.last) e;
+        rises = (let r = ap (λ (f : PassNumbers). f.refused) e in omega arith);
+        durable = (let a = was.numbers.durable in let b = is.numbers.durable in let c = stays.durable in omega arith);
+      };
       left = ap (λ (f : PassNumbers). f.left) e;
-      rises = (let r = ap (λ (f : PassNumbers). f.refused) e in omega arith);
-      durable = (let a = was.numbers.durable in let b = is.numbers.durable in let c = stays.durable in omega arith);
     };
     shown = shown;
     had = ap (λ (f : PassNumbers). f.had_turn) e;

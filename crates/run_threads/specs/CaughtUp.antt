@@ -32,10 +32,6 @@ pub record HasCaughtUp (v w : BackState) : Type 0 where
   pub durable : w.log.durable ≡ end
   pub reproduced : w.log.reproduced ≡ end
 
--- no number is told, where the medium is visible
-abbrev pub TellsNone : {M : Type 0} {ghosts : Ghosts M} → Back M ghosts → Back M ghosts → Type 0
-TellsNone old new = IsTrue (sight_of old).is_visible → (state_now (sight_of new)).told ≡ (state_now (sight_of old)).told
-
--- or the durable number alone
+-- the durable number alone is told, where the medium is visible
 abbrev pub TellsDurable : {M : Type 0} {ghosts : Ghosts M} → Back M ghosts → Back M ghosts → Type 0
 TellsDurable old new = IsTrue (sight_of old).is_visible → (state_now (sight_of new)).told ≡ (state_now (sight_of old)).told ++ (state_of new).log.durable ∷ []

@@ -1,5 +1,6 @@
 pub mod Answers
 pub mod Ends
+pub mod RunsOnThreads
 pub mod HasRun
 pub mod Ran
 pub mod Streamed

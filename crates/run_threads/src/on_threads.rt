@@ -1,12 +1,9 @@
 //! The requests of files, run on threads.
 
-ghost use Rattle.back_store.specs.BackView.{sight_of};
-ghost use Rattle.dude_engine.specs.Opening.{Opening};
-ghost use Rattle.dude_engine.specs.Plain.{IsOpeningOf};
 ghost use Rattle.dude_recover.specs.Opened.{IsOpened};
-ghost use Rattle.run_threads.specs.Answers.{AnswersOnThreads, TellsSyncsOnThreads};
-ghost use Rattle.run_threads.specs.Ends.{EndsOnThreads, MayRunOn, RecoversOnThreads};
-ghost use Rattle.std.specs.Prelude.{◌≡◌, length, map};
+ghost use Rattle.run_threads.specs.Ends.{MayRunOn};
+ghost use Rattle.run_threads.specs.RunsOnThreads.{RunsOnThreads};
+ghost use Rattle.std.specs.Prelude.{length, map};
 
 use crate::beginning::begin;
 use crate::ending::finish;
@@ -34,16 +31,7 @@ pub fn threaded<R: Threads + Sync, M: Medium + Send, G: Gate + Sync>(
 ) -> Ran<M>
     requires opened { IsOpened opened }
     requires may { MayRunOn opened run.now (length files.now) (map (λ f. f.items) files.now) }
-    ensures replies { (opening : Opening) → IsOpeningOf opened opening
-        → AnswersOnThreads run.now opening (map (λ f. f.items) files.now) result.done.items
-        (sight_of opened.back) }
-    ensures syncs { TellsSyncsOnThreads opened.number result.done.items (sight_of opened.back)
-        (M.sight result.medium) }
-    ensures moments { (opening : Opening) → IsOpeningOf opened opening
-        → RecoversOnThreads opening opened.words.items result.done.items (sight_of opened.back)
-        (M.sight result.medium) }
-    ensures end { EndsOnThreads opened (map (λ f. f.items) files.now) result.done.items result.end
-        result.last (M.sight result.medium) }
+    ensures { RunsOnThreads opened run.now (map (λ f. f.items) files.now) result }
 {
     match begin(alloc, opened, run, files.len() as u64) {
         Ok(begun) => {

@@ -39,12 +39,12 @@ pub(crate) fn serve_streaming<R: Threads + Sync, M: Medium + Send, G: Gate + Syn
 {
     let Begun { stm, pass, lay } = begun;
     let work = Work {
+        files,
+        gate,
         alloc,
         stm: stm.steps(),
         turns: &BackTurns,
         lay: &lay,
-        files,
-        gate,
     };
     match work.stream_files(rt, pass, out) {
         Ok(streamed) => {

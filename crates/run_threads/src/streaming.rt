@@ -1,14 +1,11 @@
 //! The requests of files, run on threads, of which the lines are printed meanwhile.
 
-ghost use Rattle.back_store.specs.BackView.{sight_of};
-ghost use Rattle.dude_engine.specs.Opening.{Opening};
-ghost use Rattle.dude_engine.specs.Plain.{IsOpeningOf};
 ghost use Rattle.dude_recover.specs.Opened.{IsOpened};
 ghost use Rattle.dude_stream.specs.Streams.{Streams};
-ghost use Rattle.run_threads.specs.Answers.{AnswersOnThreads, TellsSyncsOnThreads};
-ghost use Rattle.run_threads.specs.Ends.{EndsOnThreads, MayRunOn, RecoversOnThreads};
+ghost use Rattle.run_threads.specs.Ends.{MayRunOn};
+ghost use Rattle.run_threads.specs.RunsOnThreads.{RunsOnThreads};
 ghost use Rattle.run_threads.specs.Streamed.{is_whole};
-ghost use Rattle.std.specs.Prelude.{◌≡◌, length, map};
+ghost use Rattle.std.specs.Prelude.{length, map};
 
 use crate::beginning::begin;
 use crate::ending::finish;
@@ -39,16 +36,7 @@ pub fn streamed<R: Threads + Sync, M: Medium + Send, G: Gate + Sync, K: Sink + S
 ) -> Streamed<M>
     requires opened { IsOpened opened }
     requires may { MayRunOn opened run.now (length files.now) (map (λ f. f.items) files.now) }
-    ensures replies { (opening : Opening) → IsOpeningOf opened opening
-        → AnswersOnThreads run.now opening (map (λ f. f.items) files.now) result.ran.done.items
-        (sight_of opened.back) }
-    ensures syncs { TellsSyncsOnThreads opened.number result.ran.done.items
-        (sight_of opened.back) (M.sight result.ran.medium) }
-    ensures moments { (opening : Opening) → IsOpeningOf opened opening
-        → RecoversOnThreads opening opened.words.items result.ran.done.items
-        (sight_of opened.back) (M.sight result.ran.medium) }
-    ensures end { EndsOnThreads opened (map (λ f. f.items) files.now) result.ran.done.items
-        result.ran.end result.ran.last (M.sight result.ran.medium) }
+    ensures runs { RunsOnThreads opened run.now (map (λ f. f.items) files.now) result.ran }
     ensures printed { Streams (is_whole result.ran.end) result.sink_failed
         result.ran.done.items result.ran.last (K.sight out.old) (K.sight out.new) }
 {

@@ -68,44 +68,46 @@ returns g c =
     let through : IsTrue (are_kept c.args.packets) → (opening : Opening) → IsOpeningOf o opening → KeptThrough opening o.words.items run =
     λ kept opening is. through_of opening o.words.items run s t served (left opening is) (kept_by kept opening is) in
     record {
-      replies = λ opening is. record {
-        performs = performs_in_rounds opening files performed done same collects rounds (at opening is).answered (performs.first done same sorted);
-        replies = replies_of opening files performed done same collects rounds (at opening is).answered;
-      };
-      syncs = record {
-        follow = follow_of lawful files performed done same collects rounds some;
-        from = from_of lawful files performed done same collects rounds some;
-        told = λ visible. syncs_of lawful files performed done same collects rounds some s u ((at lawful lawful_is).syncs visible);
-      };
-      moments = λ opening is. recovers_of opening files performed done same collects rounds (at opening is).answered (went_well served) o.words.items (log_durable run.log) s u (at opening is);
-      end = record {
-        len = (at lawful lawful_is).len;
-        whole = λ whole opening is.
-            let ended = sym c.end_of.ensures ∙ whole in
-            let settled : IsSettledRun opening o.words.items (log_durable run.log) performed s t = on_whole served ended c.run_all-served.ensures.settled opening o.words.items s (running opening is) in
-            whole_of opening files performed done same collects rounds (at opening is).answered o.words.items c.durable-last.result s u (on_whole served ended performs.all done same sorted)
-            (subst (λ (v : Sight). IsSettledRun opening o.words.items c.durable-last.result performed s v) (sym still)
-            (subst (λ (n : ℕ). IsSettledRun opening o.words.items n performed s t) (sym c.durable-last.ensures) settled));
-        calls = λ whole.
-            let makes : Makes (RunBy o.lay (record { words = words_of c.new-2.result; log = log_parts c.new.result }) performed (log_durable run.log)) (g.M.Medium.sight (log_medium c.new.result)) t = on_whole served (sym c.end_of.ensures ∙ whole) c.run_all-served.ensures.calls in
-            makes_its_calls o.lay o.sizes (record { words = words_of c.new-2.result; log = log_parts c.new.result }) o.words.items (state_of o.back) performed done (log_durable run.log) c.durable-last.result (g.M.Medium.sight (log_medium c.new.result)) s t u c.requires.opened.layout
-            (run_parts_are (words_of c.new-2.result) o.words.items (log_parts c.new.result) (parts (state_of o.back) None) c.new-2.ensures.words (parts_are (log_back c.new.result) (state_of o.back) (log_open c.new.result) None starts.back_is starts.none_open))
-            (ap (λ m. g.M.Medium.sight m) starts.medium) still c.durable-last.ensures same rounds makes;
-        few_lost = λ opening is.
-            let near : EndsNearLast (most_lost (end_by served)) opening o.words.items performed s t =
-            near_by opening o.words.items run s t served (log_durable run.log) run.log.log.back.room (left opening is)
-            (on_ok served (λ settles. settles opening o.words.items s (running opening is)) c.run_all-served.ensures.settled) in
-            subst (λ (e : RanEnd). LosesFew (most_lost e) opening o.words.items done s u) (sym c.end_of.ensures)
-            (few_lost_of opening files performed done same collects rounds (at opening is).answered (most_lost (end_by served)) o.words.items s u
-            (subst (λ (v : Sight). EndsNearLast (most_lost (end_by served)) opening o.words.items performed s v) (sym still) near));
-        from = subst (λ (n : ℕ). o.number ≤ n) (sym c.durable-last.ensures) (at lawful lawful_is).rises;
-        last_told = λ visible opening is.
-            subst (λ (e : RanEnd). IsLastTold e opening c.durable-last.result s u) (sym c.end_of.ensures)
-            (subst (λ (n : ℕ). IsLastTold (end_by served) opening n s u) (sym c.durable-last.ensures)
-            (subst (λ (ok : Bool). WereTold ok opening.number (log_durable run.log) (state_now s).told (state_now u).told) (well_by served) ((at opening is).tells visible)));
-        ran = (went_well served, (at lawful lawful_is).ran, subst (λ (e : RanEnd). (went_well served ≡ false) ↔ (e ≡ Device)) (sym c.end_of.ensures) (device_by served));
-        cause = λ device.
-            subst (λ (v : Sight). Risen s.faults v.faults) (sym still) (cause_by lawful o.words.items run s t served (left lawful lawful_is) (sym c.end_of.ensures ∙ device));
+      runs = record {
+        replies = λ opening is. record {
+          performs = performs_in_rounds opening files performed done same collects rounds (at opening is).answered (performs.first done same sorted);
+          replies = replies_of opening files performed done same collects rounds (at opening is).answered;
+        };
+        syncs = record {
+          follow = follow_of lawful files performed done same collects rounds some;
+          from = from_of lawful files performed done same collects rounds some;
+          told = λ visible. syncs_of lawful files performed done same collects rounds some s u ((at lawful lawful_is).syncs visible);
+        };
+        moments = λ opening is. recovers_of opening files performed done same collects rounds (at opening is).answered (went_well served) o.words.items (log_durable run.log) s u (at opening is);
+        end = record {
+          len = (at lawful lawful_is).len;
+          whole = λ whole opening is.
+              let ended = sym c.end_of.ensures ∙ whole in
+              let settled : IsSettledRun opening o.words.items (log_durable run.log) performed s t = on_whole served ended c.run_all-served.ensures.settled opening o.words.items s (running opening is) in
+              whole_of opening files performed done same collects rounds (at opening is).answered o.words.items c.durable-last.result s u (on_whole served ended performs.all done same sorted)
+              (subst (λ (v : Sight). IsSettledRun opening o.words.items c.durable-last.result performed s v) (sym still)
+              (subst (λ (n : ℕ). IsSettledRun opening o.words.items n performed s t) (sym c.durable-last.ensures) settled));
+          calls = λ whole.
+              let makes : Makes (RunBy o.lay (record { words = words_of c.new-2.result; log = log_parts c.new.result }) performed (log_durable run.log)) (g.M.Medium.sight (log_medium c.new.result)) t = on_whole served (sym c.end_of.ensures ∙ whole) c.run_all-served.ensures.calls in
+              makes_its_calls o.lay o.sizes (record { words = words_of c.new-2.result; log = log_parts c.new.result }) o.words.items (state_of o.back) performed done (log_durable run.log) c.durable-last.result (g.M.Medium.sight (log_medium c.new.result)) s t u c.requires.opened.layout
+              (run_parts_are (words_of c.new-2.result) o.words.items (log_parts c.new.result) (parts (state_of o.back) None) c.new-2.ensures.words (parts_are (log_back c.new.result) (state_of o.back) (log_open c.new.result) None starts.back_is starts.none_open))
+              (ap (λ m. g.M.Medium.sight m) starts.medium) still c.durable-last.ensures same rounds makes;
+          few_lost = λ opening is.
+              let near : EndsNearLast (most_lost (end_by served)) opening o.words.items performed s t =
+              near_by opening o.words.items run s t served (log_durable run.log) run.log.log.back.room (left opening is)
+              (on_ok served (λ settles. settles opening o.words.items s (running opening is)) c.run_all-served.ensures.settled) in
+              subst (λ (e : RanEnd). LosesFew (most_lost e) opening o.words.items done s u) (sym c.end_of.ensures)
+              (few_lost_of opening files performed done same collects rounds (at opening is).answered (most_lost (end_by served)) o.words.items s u
+              (subst (λ (v : Sight). EndsNearLast (most_lost (end_by served)) opening o.words.items performed s v) (sym still) near));
+          from = subst (λ (n : ℕ). o.number ≤ n) (sym c.durable-last.ensures) (at lawful lawful_is).rises;
+          last_told = λ visible opening is.
+              subst (λ (e : RanEnd). IsLastTold e opening c.durable-last.result s u) (sym c.end_of.ensures)
+              (subst (λ (n : ℕ). IsLastTold (end_by served) opening n s u) (sym c.durable-last.ensures)
+              (subst (λ (ok : Bool). WereTold ok opening.number (log_durable run.log) (state_now s).told (state_now u).told) (well_by served) ((at opening is).tells visible)));
+          ran = (went_well served, (at lawful lawful_is).ran, subst (λ (e : RanEnd). (went_well served ≡ false) ↔ (e ≡ Device)) (sym c.end_of.ensures) (device_by served));
+          cause = λ device.
+              subst (λ (v : Sight). Risen s.faults v.faults) (sym still) (cause_by lawful o.words.items run s t served (left lawful lawful_is) (sym c.end_of.ensures ∙ device));
+        };
       };
       packets = λ kept opening is.
           let th = through kept opening is in

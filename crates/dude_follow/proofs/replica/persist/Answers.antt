@@ -49,13 +49,13 @@ returns-in-Ok-clause-moments g c = persist_moments (state_of c.args.back.now) c.
 
 pub returns-in-Err : goal.returns-in-Err
 returns-in-Err g c =
+    let e = c.in-Err.ensures in
+    let fault = c.in-Err.field-0 in
     let v = state_of c.args.back.now in
     let w = state_of c.persist.new.self in
     let s = sight_of c.args.back.now in
     let t = sight_of c.persist.new.self in
     let b = c.args.b.now in
-    let e = c.in-Err.ensures in
-    let fault = c.in-Err.field-0 in
     let which : (fault ≡ Device) ⊎ (fault ≡ Dead) = ⊎_elim
     (λ full. absurd (room_for v b c.requires.rests c.requires.packet c.requires.next (e.cause.full.0 (ap Err full)).1))
     (λ others. others)

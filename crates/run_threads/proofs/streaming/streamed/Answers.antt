@@ -7,7 +7,7 @@ use Rattle.run_workers.specs.Streamed.{HasStreamed}
 use Rattle.run_threads.specs.declared.printing.Printing.{Printing}
 use Rattle.run_threads.specs.Begun.{begun_table}
 use Rattle.run_threads.proofs.BegunRuns.{frames_are, ran_nothing, ran_over}
-use Rattle.run_threads.proofs.Opened.{answers, at_rest, ends, moments, start, syncs}
+use Rattle.run_threads.proofs.Opened.{as_ensured, at_rest, start}
 use Rattle.run_threads.proofs.StreamedRun.{inside_counted, none_is, ran_behind_lines, some_is, streamed_on, unprinted}
 use Rattle.run_threads.proofs.streaming.streamed.Goals as goal
 
@@ -38,10 +38,7 @@ returns-in-Some g c =
     let h = some_is (λ (x : Printing). HasStreamed threads served.result.0.done.items x.printed.items x.stopped s u) served.result.1 p c.in-Some.is served.ensures.some in
     let last = ran_behind_lines sight (start o run threads opened held) files r new c.print_behind.ensures.same ran in
     record {
-      replies = answers o run threads opened held files new.done.items new.end new.last (sight new.medium) last;
-      syncs = syncs o run threads opened held files new.done.items new.end new.last (sight new.medium) last;
-      moments = moments o run threads opened held files new.done.items new.end new.last (sight new.medium) last;
-      end = ends o run threads opened held files new.done.items new.end new.last (sight new.medium) last;
+      runs = as_ensured o run threads opened held new last;
       printed = c.print_behind.ensures.printed ran.numbers.held.0 s ran.numbers.held.2 (streamed_on threads served.result.0.done.items r.done.items p.printed.items p.stopped s u h c.finish-ran.ensures.first);
     }
 
@@ -53,22 +50,16 @@ returns-in-None g c =
     let ran = ran_over o run threads opened b begun held files r.done.items r.end r.last (sight r.medium) (c.finish-ran.ensures.ran t.key (frames_are o run threads opened b begun) served.ensures.served) in
     let none = none_is served.result.1 _ c.in-None.is served.ensures.none in
     record {
-      replies = answers o run threads opened held files r.done.items r.end r.last (sight r.medium) ran;
-      syncs = syncs o run threads opened held files r.done.items r.end r.last (sight r.medium) ran;
-      moments = moments o run threads opened held files r.done.items r.end r.last (sight r.medium) ran;
-      end = ends o run threads opened held files r.done.items r.end r.last (sight r.medium) ran;
+      runs = as_ensured o run threads opened held r ran;
       printed = unprinted c.law_of_streams.ensures.stopped r.end (λ whole. c.finish-ran.ensures.memory none.0 whole) ran.numbers.held.0 r.done.items r.last s u ran.numbers.held.2 none.1;
     }
 
 pub returns-in-Err : goal.returns-in-Err
 returns-in-Err g c =
     let o = c.args.opened in let run = c.args.run.now in let threads = length c.args.files.now in let opened = c.requires.opened in let held = c.requires.may.held in
-    let files = map (λ f. f.items) c.args.files.now in let r = c.in-Err.ran in let u = g.M.Medium.sight r.medium in let s = g.K.Sink.sight c.args.out.now in
+    let files = map (λ f. f.items) c.args.files.now in let r = c.in-Err.ran in let s = g.K.Sink.sight c.args.out.now in
     let ran = ran_nothing o run threads opened held files r c.in-Err.ensures.err in
     record {
-      replies = answers o run threads opened held files r.done.items r.end r.last u ran;
-      syncs = syncs o run threads opened held files r.done.items r.end r.last u ran;
-      moments = moments o run threads opened held files r.done.items r.end r.last u ran;
-      end = ends o run threads opened held files r.done.items r.end r.last u ran;
+      runs = as_ensured o run threads opened held r ran;
       printed = unprinted c.law_of_streams.ensures.stopped r.end (λ whole. let e = sym c.in-Err.ensures.err.end ∙ whole in let no : ⊥ = cc in no) [] r.done.items r.last s s (ap (map indexed_request_of) c.in-Err.ensures.err.none) refl;
     }
