@@ -1,11 +1,12 @@
 -- The first element of a list that is as said.
-use Rattle.std.proofs.Common.{◌≡◌, ℕ, ◌+◌, ◌<◌, ◌≤◌, List, [], ◌∷◌, ◌++◌, length, get_or, take, drop, map, refl, sym, ◌∙◌, ap, subst, arith, add-one, append_assoc}
+use Rattle.std.proofs.Common.{◌≡◌, ℕ, ◌+◌, ◌<◌, ◌≤◌, List, [], ◌∷◌, ◌++◌, length, get_or, take, drop, map, sym, ◌∙◌, ap, subst, arith, add-one, append_assoc}
 use Rattle.std.specs.Prelude.{All}
 use Rattle.std.specs.List.{AllZip}
 use Rattle.std.proofs.Math.Seq.{drop-cons}
 use Rattle.std.proofs.lemmas.List.{take-append-drop, length-append, length-take-le, map-append, length-map}
-use Rattle.std.proofs.lemmas.List.Elements.{All-append, All-map, All-nil, All-cons, All-head, All-tail}
+use Rattle.std.proofs.lemmas.List.Elements.{All-append, All-map, All-head, All-tail}
 use Rattle.command_edges.specs.Files.{IsFirst}
+use Rattle.command_edges.proofs.Zips.{AllZip-back, splits}
 
 split_at : {X : Type 0} (xs : List X) (i : ℕ) (d : X) → i < length xs → xs ≡ take i xs ++ get_or xs i d ∷ drop (i + 1) xs
 split_at {X = X} xs i d below =
@@ -72,26 +73,18 @@ IsFirst-behind {X = X} P Q before xs n all first = record {
 -- of two related lists the first one has such an element where the second has one
 module _ {A B : Type 0} (R : A → B → Type 0) (P Q : B → Type 0) (P' Q' : A → Type 0)
     (p : (x : A) (y : B) → R x y → P y → P' x) (q : (x : A) (y : B) → R x y → Q y → Q' x) where
-  first_of_parts : (earlier : List B) (this : B) (later : List B) (xs : List A) → All P earlier → Q this → AllZip R xs (earlier ++ this ∷ later) → IsFirst P' Q' xs (length earlier + 1)
-  first_of_parts [] this later [] each is both = absurd both
-  first_of_parts [] this later (x ∷ xs) each is both = record { earlier = []; this = x; later = xs; split = refl; counted = refl; each_earlier = All-nil P'; is_this = q x this both.0 is }
-  first_of_parts (y ∷ earlier) this later [] each is both = absurd both
-  first_of_parts (y ∷ earlier) this later (x ∷ xs) each is both =
-      let rest = first_of_parts earlier this later xs (All-tail P y earlier each) is both.1 in
-      record {
-        earlier = x ∷ rest.earlier;
-        this = rest.this;
-        later = rest.later;
-        split = ap (λ (l : List A). x ∷ l) rest.split;
-        counted = let so = rest.counted in omega (arith, so);
-        each_earlier = All-cons P' x rest.earlier (p x y both.0 (All-head P y earlier each)) rest.each_earlier;
-        is_this = rest.is_this;
-      }
-
   pub IsFirst-zip : (xs : List A) (ys : List B) (n : ℕ) → AllZip R xs ys → IsFirst P Q ys n → IsFirst P' Q' xs n
   IsFirst-zip xs ys n both first =
-      subst (λ (m : ℕ). IsFirst P' Q' xs m) (sym first.counted)
-      (first_of_parts first.earlier first.this first.later xs first.each_earlier first.is_this (subst (λ (l : List B). AllZip R xs l) first.split both))
+      let parts = splits R xs first.earlier first.this first.later (subst (λ (l : List B). AllZip R xs l) first.split both) in
+      record {
+        earlier = parts.front;
+        this = parts.this;
+        later = parts.rest;
+        split = parts.parts;
+        counted = let long = parts.same_length in let so = first.counted in omega (arith, long, so);
+        each_earlier = AllZip-back R P' P parts.front first.earlier p parts.fronts first.each_earlier;
+        is_this = q parts.this first.this parts.both first.is_this;
+      }
 
 module _ {X : Type 0} where
   at_its_place : (P : X → Type 0) (earlier : List X) (this : X) (later : List X) → All P (earlier ++ this ∷ later) → P this

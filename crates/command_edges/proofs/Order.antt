@@ -179,10 +179,10 @@ then_fault fault other reads = record {
   whole = reads.whole;
   left = reads.left;
   split = reads.split;
+  ended = ends_otherwise fault reads.whole reads.left reads.last other reads.ended;
   each = reads.each;
   each_whole = reads.each_whole;
   last = reads.last;
-  ended = ends_otherwise fault reads.whole reads.left reads.last other reads.ended;
   made = reads.made;
   few = reads.few;
 }

@@ -1,9 +1,9 @@
 -- Lists whose elements are related, place by place.
-use Rattle.std.proofs.Common.{◌≡◌, ◌-◌, refl, get_or, drop, take, length, arith, List, [], ◌∷◌, ◌++◌}
+use Rattle.std.proofs.Common.{◌≡◌, ◌-◌, refl, ap, get_or, drop, take, length, arith, List, [], ◌∷◌, ◌++◌}
 use Rattle.std.specs.Prelude.{All, map}
 use Rattle.std.specs.List.{AllZip}
 use Rattle.std.proofs.lemmas.List.{take_all}
-use Rattle.std.proofs.lemmas.List.Elements.{All-nil, All-cons}
+use Rattle.std.proofs.lemmas.List.Elements.{All-nil, All-cons, All-head, All-tail}
 
 module _ {A B : Type 0} (R : A → B → Type 0) where
   pub AllZip-more : (xs : List A) (ys : List B) (x : A) (y : B) → AllZip R xs ys → R x y → AllZip R (xs ++ x ∷ []) (ys ++ y ∷ [])
@@ -25,6 +25,39 @@ module _ {A B : Type 0} (R : A → B → Type 0) where
   AllZip-seconds P [] (v ∷ ys) f both = absurd both
   AllZip-seconds P (u ∷ xs) [] f both = absurd both
   AllZip-seconds P (u ∷ xs) (v ∷ ys) f both = All-cons P v ys (f u v both.0) (AllZip-seconds P xs ys f both.1)
+
+  -- what each pair says of its first element, where something is said of the second one
+  pub AllZip-back : (P : A → Type 0) (Q : B → Type 0) (xs : List A) (ys : List B) → ((x : A) (y : B) → R x y → Q y → P x) → AllZip R xs ys → All Q ys → All P xs
+  AllZip-back P Q [] [] f both all = All-nil P
+  AllZip-back P Q [] (v ∷ ys) f both all = absurd both
+  AllZip-back P Q (u ∷ xs) [] f both all = absurd both
+  AllZip-back P Q (u ∷ xs) (v ∷ ys) f both all = All-cons P u xs (f u v both.0 (All-head Q v ys all)) (AllZip-back P Q xs ys f both.1 (All-tail Q v ys all))
+
+-- Of two related lists one splits as the other.
+pub record Splits {A B : Type 0} (R : A → B → Type 0) (xs : List A) (ys : List B) (y : B) : Type 0 where
+  pub front : List A
+  pub this : A
+  pub rest : List A
+  pub parts : xs ≡ front ++ this ∷ rest
+  pub same_length : length front ≡ length ys
+  pub fronts : AllZip R front ys
+  pub both : R this y
+
+pub splits : {A B : Type 0} (R : A → B → Type 0) (xs : List A) (ys : List B) (y : B) (zs : List B) → AllZip R xs (ys ++ y ∷ zs) → Splits R xs ys y
+splits R [] [] y zs zip = absurd zip
+splits R (x ∷ xs) [] y zs zip = record { front = []; this = x; rest = xs; parts = refl; same_length = refl; fronts = tt; both = zip.0 }
+splits R [] (z ∷ ys) y zs zip = absurd zip
+splits {A = A} R (x ∷ xs) (z ∷ ys) y zs zip =
+    let rest = splits R xs ys y zs zip.1 in
+    record {
+      front = x ∷ rest.front;
+      this = rest.this;
+      rest = rest.rest;
+      parts = ap (λ (l : List A). x ∷ l) rest.parts;
+      same_length = let long = rest.same_length in omega (arith, long);
+      fronts = (zip.0, rest.fronts);
+      both = rest.both;
+    }
 
 -- two relations, one behind the other
 pub AllZip-then : {A B C : Type 0} (R : A → B → Type 0) (S : B → C → Type 0) (T : A → C → Type 0) (xs : List A) (ys : List B) (zs : List C)

@@ -1,8 +1,9 @@
 //! Why a command was not carried out, the status that it ends with, and the line that it prints.
 
-ghost use Rattle.command_edges.specs.Fault.{fault_line};
+ghost use Rattle.command_edges.specs.Fault.{fault_line, fault_words};
+ghost use Rattle.command_edges.specs.declared.fault.Fault.TheVariants.{Memory};
 ghost use Rattle.std.specs.Fmt.{WritesOnOk};
-ghost use Rattle.std.specs.Prelude.{◌≡◌, ◌++◌, decimal, OnOk, OnErr};
+ghost use Rattle.std.specs.Prelude.{◌≡◌, ◌++◌, decimal, OnOk, OnErr, Some};
 
 use std::alloc::{AllocError, AllocFailed};
 use std::fmt;
@@ -49,6 +50,14 @@ pub enum Fault {
     Strange { file: u64, packet: u64 },
 }
 
+impl From<AllocError> for Fault {
+    ghost from_gives = { λ _ fault. fault ≡ Memory };
+
+    fn from(_: AllocError) -> Fault {
+        Fault::Memory
+    }
+}
+
 impl Fault {
     ghost use Rattle.command_edges.specs.Fault.{status_of};
     ghost use Rattle.std.specs.Prelude.{◌≡◌, Some};
@@ -80,9 +89,6 @@ impl Fault {
 }
 
 impl fmt::Display for Fault {
-    ghost use Rattle.command_edges.specs.Fault.{fault_words};
-    ghost use Rattle.std.specs.Prelude.{Some};
-
     ghost output = { λ f. Some (fault_words f) };
 
     fn fmt<W: fmt::Write>(&self, f: &mut fmt::Formatter<W>) -> fmt::Result {
@@ -136,21 +142,7 @@ fn write_all<W: fmt::Write>(
     write!(f, "{first}{number}{next}{other}{last}")
 }
 
-impl From<AllocError> for Fault {
-    ghost use Rattle.command_edges.specs.declared.fault.Fault.TheVariants.{Memory};
-    ghost use Rattle.std.specs.Prelude.{◌≡◌};
-
-    ghost from_gives = { λ _ fault. fault ≡ Memory };
-
-    fn from(_: AllocError) -> Fault {
-        Fault::Memory
-    }
-}
-
 impl<T: Drop> From<AllocFailed<T>> for Fault {
-    ghost use Rattle.command_edges.specs.declared.fault.Fault.TheVariants.{Memory};
-    ghost use Rattle.std.specs.Prelude.{◌≡◌};
-
     ghost from_gives = { λ _ fault. fault ≡ Memory };
 
     fn from(_: AllocFailed<T>) -> Fault {

@@ -2,7 +2,8 @@
 
 ghost use Rattle.command_edges.specs.Located.{located_line, located_text};
 ghost use Rattle.command_edges.specs.Printing.{Prints, StopsWithin};
-ghost use Rattle.std.specs.Prelude.{◌≡◌, ◌++◌, OnOk, IfErr};
+ghost use Rattle.std.specs.List.{flat_map};
+ghost use Rattle.std.specs.Prelude.{◌≡◌, ◌++◌, IfErr, IfOk, OnOk};
 
 use crate::fault::Fault;
 use crate::lines::print_last;
@@ -21,6 +22,17 @@ fn push_found(found: &(u64, u64), text: &mut Vec<u8>) -> Result<(), AllocError>
     Ok(())
 }
 
+// The lines of the subscribers found.
+fn lines_of(alloc: Global, found: &[(u64, u64)]) -> Result<Vec<u8>, AllocError>
+    ensures { IfOk result (λ text. text.items ≡ flat_map located_line found.now) }
+{
+    let mut text = Vec::new(alloc);
+    for row in found {
+        push_found(row, &mut text)?;
+    }
+    Ok(text)
+}
+
 /// Prints the number and the location of each subscriber found, and the last number. The text is made whole first.
 pub fn print_located<K: Sink>(
     alloc: Global,
@@ -31,9 +43,6 @@ pub fn print_located<K: Sink>(
     ensures ok { OnOk result (Prints K.sight (located_text found.now last) out.old out.new) }
     ensures err { IfErr result (StopsWithin K.sight (located_text found.now last) out.old out.new) }
 {
-    let mut text = Vec::new(alloc);
-    for row in found {
-        push_found(row, &mut text)?;
-    }
+    let mut text = lines_of(alloc, found)?;
     print_last(last, &mut text, out)
 }

@@ -5,6 +5,7 @@ use Rattle.pmem_trait.specs.Reads.{ContentHas}
 use Rattle.tatp_model.specs.Population.{population}
 use Rattle.image_recovery.specs.Recovered.{RecoversTo}
 use Rattle.dude_engine.specs.Opening.{Opening}
+pub use Rattle.dude_engine.specs.Plain.{IsOpeningOf}
 
 -- a new image starts with number 0 and the population
 abbrev pub new_opening : Sizes → Opening

@@ -1,10 +1,9 @@
 //! A new image is made on a medium, and opened.
 
 ghost use Rattle.command_openings.specs.Faults.{IsFaultOfFormat, IsFormatRefusal, IsSized};
-ghost use Rattle.command_openings.specs.Openings.{new_opening};
+ghost use Rattle.command_openings.specs.Openings.{IsOpeningOf, new_opening};
 ghost use Rattle.command_openings.specs.Opens.{OpensImage, OpensImagePartly};
 ghost use Rattle.dude_base.specs.Sizes.{IsAccepted};
-ghost use Rattle.dude_engine.specs.Plain.{IsOpeningOf};
 ghost use Rattle.dude_recover.specs.Causes.{FitsImage};
 ghost use Rattle.dude_recover.specs.Opened.{IsOpened};
 ghost use Rattle.pmem_trait.specs.Sights.{IsAtRest};

@@ -3,8 +3,7 @@
 use crate::opening::fault_of;
 use crate::progress::Progress;
 use crate::progress_runtime::ProgressRuntime;
-use crate::watched_pmem::WatchedPmem;
-use crate::watched_sink::WatchedSink;
+use crate::watched::Watched;
 use command_edges::{Command, command_of};
 use dude_io::{FilePmem, RealFiles, RealSink};
 use dude_program::{Fault, dude_watched};
@@ -32,12 +31,12 @@ pub fn drive_shown<R: Threads + Sync>(
     progress: &Progress,
 ) -> Option<Fault> {
     let medium = match FilePmem::open(ProgressRuntime { rt, progress }, name) {
-        Ok(medium) => WatchedPmem { medium, progress },
+        Ok(inner) => Watched { inner, progress },
         Err(fault) => return Some(fault_of(fault)),
     };
     let mut files = RealFiles::new(rt);
-    let mut out = WatchedSink {
-        sink: RealSink::new(rt),
+    let mut out = Watched {
+        inner: RealSink::new(rt),
         progress,
     };
     let ended = dude_watched(

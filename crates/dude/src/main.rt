@@ -12,8 +12,7 @@ mod grouped;
 mod opening;
 mod progress;
 mod progress_runtime;
-mod watched_pmem;
-mod watched_sink;
+mod watched;
 
 use crate::driving::{drive_shown, progress_of};
 use crate::opening::fault_of;

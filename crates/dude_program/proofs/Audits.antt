@@ -40,7 +40,7 @@ use Rattle.dude_program.specs.Audit.{IsRefusedRun, IsRunFound, RunRead}
 use Rattle.dude_program.specs.Judging.{IsAnswer, IsAnswerOn}
 use Rattle.dude_program.specs.Headline.{Headline, Printed as PrintedText, SaidYes, TookAll, TookPrefix}
 use Rattle.dude_program.specs.Causes.{Causes, HasCause, MustRefuse, RefusesOpening, StoppedByOpening, SucceedsIfGood, Untouched}
-use Rattle.dude_program.specs.Ending.{Ends}
+use Rattle.dude_program.specs.Ended.{Ends}
 use Rattle.dude_program.specs.Work.{PrintsText}
 use Rattle.dude_program.proofs.FilesRead.{FilesRead, read_bad, read_before, read_missing}
 use Rattle.dude_program.proofs.Contents.{makes_none, opens_not_refused}

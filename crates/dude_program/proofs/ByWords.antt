@@ -11,7 +11,7 @@ use Rattle.dude_program.specs.World.{World, world_of}
 use Rattle.dude_program.specs.Opening.{has_headline}
 use Rattle.dude_program.specs.Headline.{Headline}
 use Rattle.dude_program.specs.Causes.{Causes}
-use Rattle.dude_program.specs.Ending.{Ends, EndsByWords, HasOwnTheorem}
+use Rattle.dude_program.specs.Ended.{Ends, EndsByWords, HasOwnTheorem}
 use Rattle.dude_program.proofs.FollowEnds.{follows_at_rest}
 use Rattle.dude_program.proofs.Stops.{ends_at_words}
 

@@ -24,7 +24,7 @@ use Rattle.dude_program.specs.Ship.{ShipsContent}
 use Rattle.dude_program.specs.Opening.{IsOutput, IsReachable, Starts, ends_opened, makes_image, only_reads}
 use Rattle.dude_program.specs.Headline.{AllDone, Completed, Crash, Headline, MustOnlyRead, Printed, Replies, StopsPrinting, Sync, TookAll, TookPrefix}
 use Rattle.dude_program.specs.Causes.{Causes, FailsOnlyAtDevice, HasCause, IsGood, IsLeft, IsLeftOpened, MustRefuse, OpensOnce, OpensOnceBy, RefusesFormat, RefusesOpening, StoppedByOpening, Untouched}
-use Rattle.dude_program.specs.Ending.{Ends}
+use Rattle.dude_program.specs.Ended.{Ends}
 use Rattle.dude_program.specs.Work.{PrintsText}
 use Rattle.dude_program.proofs.FilesRead.{FilesRead, read_bad, read_before, read_fits, read_missing}
 use Rattle.dude_program.proofs.Contents.{opens_not_refused}

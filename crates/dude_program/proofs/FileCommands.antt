@@ -23,7 +23,7 @@ use Rattle.dude_engine.specs.Opening.{Opening}
 use Rattle.dude_engine.specs.Requests.{HasNumbersFor, request_count}
 use Rattle.dude_program.specs.declared.prepared.Prepared.{Prepared}
 use Rattle.dude_program.specs.Causes.{AreOutOfLimits, DrawsNumbers, IsLeftOpened, MustRefuse, RefusesAudit, RefusesOpening, WantsFrames, WantsSubscribers, files_run}
-use Rattle.dude_program.specs.Ending.{Ends}
+use Rattle.dude_program.specs.Ended.{Ends}
 use Rattle.dude_program.specs.Opening.{IsReachable, KnowsReplies, RequestsAre, command_files, only_reads, runs_requests, runs_threads}
 use Rattle.dude_program.specs.Prepared.{CarriesOut, IsPrepared}
 use Rattle.dude_program.specs.Work.{AllowsFrames, RanOver, RefusesRun}

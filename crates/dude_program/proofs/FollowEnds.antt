@@ -25,7 +25,7 @@ use Rattle.dude_engine.specs.Opening.{Opening, IsOpening}
 use Rattle.dude_program.specs.World.{SinkStays, world_of}
 use Rattle.dude_program.specs.Causes.{EndedWell, HasCause, MustRefuse, FailsOnlyAtDevice, SucceedsIfGood, Untouched}
 use Rattle.dude_program.specs.Delivery.{IsRefusedDelivery, TakesFiles, drops_of}
-use Rattle.dude_program.specs.Ending.{Ends}
+use Rattle.dude_program.specs.Ended.{Ends}
 use Rattle.dude_program.specs.Follow.{AppliesInOrder, FollowedAll, FollowsFiles, IsLeftApplied, IsLeftInFront, RefusedDelivery, RunsFollower, followed_text}
 use Rattle.dude_program.specs.Headline.{TookAll, TookPrefix}
 use Rattle.dude_program.specs.Opening.{judges_files}

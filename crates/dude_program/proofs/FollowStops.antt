@@ -33,7 +33,7 @@ use Rattle.command_openings.specs.Openings.{IsOpeningOn}
 use Rattle.dude_engine.specs.Opening.{Opening}
 use Rattle.dude_program.specs.World.{world_of}
 use Rattle.dude_program.specs.Delivery.{FOLLOWER_ROOM, packets_in}
-use Rattle.dude_program.specs.Ending.{Ends}
+use Rattle.dude_program.specs.Ended.{Ends}
 use Rattle.dude_program.specs.Follow.{AppliesInOrder, FollowsFiles, ImagesRecover, IsLeftApplied, followed_text}
 use Rattle.dude_program.specs.Taking.{StopsInText, StopsInTexts, TakesPackets, TakesTexts}
 use Rattle.dude_program.specs.Work.{PrintsText}

@@ -37,7 +37,7 @@ use Rattle.command_edges.specs.Texts.{IsTextOf}
 use Rattle.command_edges.specs.declared.fault.Fault.{Fault}
 use Rattle.command_edges.specs.declared.fault.Fault.TheVariants as fault
 use Rattle.command_edges.proofs.Told.{file_is_there, long_file, some_is}
-use Rattle.command_edges.proofs.Zips.{AllZip-more, AllZip-then}
+use Rattle.command_edges.proofs.Zips.{AllZip-more, AllZip-then, Splits, splits}
 use Rattle.command_edges.specs.Command.{Meaning.FollowFiles}
 use Rattle.dude_program.specs.Delivery.{FOLLOWER_ROOM, HoldsBadPacket, HoldsPackets, IsFirstBadPacket, IsFirstStrange, TakesFiles, follower_at, packets_in}
 use Rattle.dude_program.specs.Follow.{AppliesInOrder, AreFirstPackets, ImagesRecover}
@@ -70,32 +70,6 @@ all_there f (name ∷ names) (text ∷ texts) read =
 
 pub packet_files_read : (names : List (List ℕ)) {f g : FilesSight} (texts : List FileText) → AllZip (IsTextOf f) (packet_files names) texts → ReadsInOrder (packet_files names) None f g → FilesRead (FollowFiles names) f g
 packet_files_read names {f} texts read reads = record { good = all_there f names texts read; reads = reads }
-
--- Of two related lists one splits as the other.
-pub record Splits {A B : Type 0} (R : A → B → Type 0) (xs : List A) (ys : List B) (y : B) : Type 0 where
-  pub front : List A
-  pub this : A
-  pub rest : List A
-  pub parts : xs ≡ front ++ this ∷ rest
-  pub same_length : length front ≡ length ys
-  pub fronts : AllZip R front ys
-  pub both : R this y
-
-pub splits : {A B : Type 0} (R : A → B → Type 0) (xs : List A) (ys : List B) (y : B) (zs : List B) → AllZip R xs (ys ++ y ∷ zs) → Splits R xs ys y
-splits R [] [] y zs zip = absurd zip
-splits R (x ∷ xs) [] y zs zip = record { front = []; this = x; rest = xs; parts = refl; same_length = refl; fronts = tt; both = zip.0 }
-splits R [] (z ∷ ys) y zs zip = absurd zip
-splits {A = A} R (x ∷ xs) (z ∷ ys) y zs zip =
-    let rest = splits R xs ys y zs zip.1 in
-    record {
-      front = x ∷ rest.front;
-      this = rest.this;
-      rest = rest.rest;
-      parts = ap (λ (l : List A). x ∷ l) rest.parts;
-      same_length = let long = rest.same_length in omega (arith, long);
-      fronts = (zip.0, rest.fronts);
-      both = rest.both;
-    }
 
 -- ---- behind the opening
 
@@ -196,9 +170,9 @@ module _ {M : Type 0} {ghosts : Ghosts M} (sizes : Sizes) (number : ℕ) (names 
           behind = record {
             earlier = parts.front;
             name = parts.this;
+            counted = counted file by.0.0;
             later = parts.rest;
             split = parts.parts;
-            counted = counted file by.0.0;
             taken = takes_files parts.front stops.each by.1.0 held_front by.1.1;
           };
           bad = holds_bad sizes f parts.this stops.text row parts.both by.0.2;
@@ -258,10 +232,10 @@ module _ {M : Type 0} {ghosts : Ghosts M} (sizes : Sizes) (number : ℕ) (array 
       record {
         packets = d.packets;
         first = d.first;
+        follows = from_start sizes number names f start end state room t.follows;
         answers = t.answers;
         records = t.records;
         after = t.after;
-        follows = from_start sizes number names f start end state room t.follows;
         moments = every_moment_then (every_moment_weaker (λ told image long along. along_more sizes number [] t.records array (length (state_now s).told) told image along) opened)
             (subst (λ (u : Sight). AtEveryMoment (RecoversAlong sizes number t.records array (length (state_now s).told)) u (follower_sight end)) sight behind);
       }

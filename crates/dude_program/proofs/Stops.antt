@@ -34,7 +34,7 @@ use Rattle.dude_program.specs.World.{world_of}
 use Rattle.dude_program.specs.Opening.{Starts, command_files, makes_image, only_reads}
 use Rattle.dude_program.specs.Headline.{Headline, MustOnlyRead, Printed}
 use Rattle.dude_program.specs.Causes.{FailsOnlyAtDevice, FilesRefuse, HasCause, MakesSome, OpensOnceBy, RefusesContent, RefusesFormat, RefusesInOrder, StoppedAtFiles, StoppedByOpening, StoppedReading, SucceedsIfGood, Untouched, sizes_made}
-use Rattle.dude_program.specs.Ending.{Ends}
+use Rattle.dude_program.specs.Ended.{Ends}
 use Rattle.dude_program.proofs.FilesRead.{FilesRead, all_read, good_none_bad, one_bad, read_bad, read_before, read_fits, read_missing}
 use Rattle.dude_program.proofs.Contents.{fits_not_refused, makes_none, one_content_fault, one_format_fault, opens_not_refused}
 use Rattle.dude_program.proofs.Crashes.{crash_prefix, sync_none}

@@ -14,7 +14,7 @@ use Rattle.command_edges.proofs.Prints.{part_stops}
 use Rattle.dude_program.specs.World.{SinkStays, world_of}
 use Rattle.dude_program.specs.Opening.{prints_early}
 use Rattle.dude_program.specs.Headline.{StopsPrinting, TookPrefix}
-use Rattle.dude_program.specs.Ending.{Ends}
+use Rattle.dude_program.specs.Ended.{Ends}
 use Rattle.dude_program.specs.Run.{fault_of_stream}
 use Rattle.dude_program.proofs.Endings.{Came, Outputs, ends_at_device, ends_at_memory, ends_printed, sink_took}
 

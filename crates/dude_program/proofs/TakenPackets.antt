@@ -168,10 +168,10 @@ module _ {M : Type 0} {ghosts : Ghosts M} where
         earlier = earlier;
         strange = b;
         later = later;
-        split = split;
-        counted = counted;
         dropped = dropped;
         taken = (stays_taken (before ++ earlier) f m g (is.quiet takes.2.none).1 (is.ok.1 ∙ takes.2.same) parts t.0, t.1, t.2);
+        split = split;
+        counted = counted;
         is_strange = strange_stays (follower_room f) t.0.after b is.packets is.after
             (subst (λ (s : FollowerState). Takes (follower_room f) s b Strange is.packets is.after) (t.0.state refl)
             (subst (λ (room : ℕ). Takes room (follower_state m) b Strange is.packets is.after) t.0.parts.room takes));

@@ -19,7 +19,7 @@ use Rattle.dude_program.specs.declared.print_time.PrintTime.{PrintTime}
 use Rattle.dude_program.specs.declared.print_time.PrintTime.TheVariants.{AtEnd, Meanwhile}
 use Rattle.dude_program.specs.declared.run_options.RunOptions.{RunOptions}
 use Rattle.dude_program.specs.declared.worked.Worked.{Worked}
-use Rattle.dude_program.specs.Ending.{Ends}
+use Rattle.dude_program.specs.Ended.{Ends}
 use Rattle.dude_program.specs.Prepared.{CarriesOut, IsPrepared}
 use Rattle.dude_program.specs.Run.{fault_of_stream, meaning_of_run}
 use Rattle.dude_program.specs.Work.{HasFrames, PrintsText, lines_of}

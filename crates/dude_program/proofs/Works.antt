@@ -27,6 +27,7 @@ use Rattle.dude_recover.specs.declared.opened.Opened.{Opened}
 use Rattle.dude_recover.specs.Opened.{HoldsOpened, IsOpened}
 use Rattle.run_threads.specs.Answers.{AnswersOnThreads, AreSyncsDurable, KnowsReads, TellsSyncsOnThreads}
 use Rattle.run_threads.specs.Ends.{AnyNumber, EndsOnThreads, EndsWhole, RecoversOnThreads}
+use Rattle.run_threads.specs.RunsOnThreads.{RunsOnThreads}
 use Rattle.run_threads.specs.Streamed.{is_whole}
 use Rattle.command_openings.proofs.Images.{none_behind}
 use Rattle.command_edges.specs.Printing.{FailsIn}
@@ -172,14 +173,11 @@ RanOnThreads sight o run files worked = (opening : Opening) → plain.IsOpeningO
 
 -- so it is seen of a command
 module _ {M : Type 0} {ghosts : Ghosts M} (o : Opened M ghosts) (opened : IsOpened o) (run : Run) (files : List (Vec Request Global)) (ran : Ran M)
-    (answers : (opening : Opening) → plain.IsOpeningOf o opening → AnswersOnThreads run opening (requests_in files) ran.done.items (sight_of o.back))
-    (syncs : TellsSyncsOnThreads o.number ran.done.items (sight_of o.back) (ghosts.sight ran.medium))
-    (moments : (opening : Opening) → plain.IsOpeningOf o opening → RecoversOnThreads opening o.words.items ran.done.items (sight_of o.back) (ghosts.sight ran.medium))
-    (ends : EndsOnThreads o (requests_in files) ran.done.items ran.end ran.last (ghosts.sight ran.medium))
+    (runs : RunsOnThreads o run (requests_in files) ran)
     (worked : Worked M) (done : worked.done ≡ ran.done) (medium : worked.medium ≡ ran.medium) (last : worked.last ≡ ran.last) (fault : worked.fault ≡ fault_of_end ran.end) where
   pub ran_on_threads : RanOnThreads ghosts.sight o run files worked
   ran_on_threads opening own =
-      rw (done, medium, last, fault) (ran_over_threads o opened run files ran.done.items ran.end ran.last (ghosts.sight ran.medium) opening own (answers opening own) syncs (moments opening own) ends)
+      rw (done, medium, last, fault) (ran_over_threads o opened run files ran.done.items ran.end ran.last (ghosts.sight ran.medium) opening own (runs.replies opening own) runs.syncs (runs.moments opening own) runs.end)
 
 -- a run is whole where it ended with no fault
 whole_none : (end : RanEnd) → is_none (fault_of_end end) ≡ is_whole end

@@ -2,7 +2,6 @@ pub mod Audit
 pub mod Causes
 pub mod Delivery
 pub mod Ended
-pub mod Ending
 pub mod Follow
 pub mod Headline
 pub mod Judging

@@ -72,22 +72,6 @@ runs_requests meaning = (properties_of meaning).runs_requests
 abbrev pub runs_threads : Meaning → Bool
 runs_threads meaning = (properties_of meaning).runs_threads
 
--- whether the command makes no call on the medium behind its opening
-abbrev pub ends_opened : Meaning → Bool
-ends_opened meaning = (properties_of meaning).ends_opened
-
--- whether the command only reads the medium, at every end: it opens no image and tells nothing
-abbrev pub only_reads : Meaning → Bool
-only_reads meaning = (properties_of meaning).only_reads
-
--- whether the command prints while it runs, so that some is printed also where the medium fails or there is no memory
-abbrev pub prints_early : Meaning → Bool
-prints_early meaning = (properties_of meaning).prints_early
-
--- whether the headline is said of the command: one without it has a theorem of its own
-abbrev pub has_headline : Meaning → Bool
-has_headline meaning = (properties_of meaning).has_headline
-
 -- The command starts from this opening. One that makes its image starts with the new image's, each other one with what the
 -- content at entry recovers to.
 abbrev pub Starts : Meaning → Sight → Opening → Type 0
@@ -102,6 +86,14 @@ Starts (DriveLoad seed count number) medium opening = IsOpeningOn medium opening
 Starts (AuditRun printed files) medium opening = IsOpeningOn medium opening
 Starts (ShipFiles files) medium opening = IsOpeningOn medium opening
 Starts (FollowFiles files) medium opening = IsOpeningOn medium opening
+
+-- whether the command makes no call on the medium behind its opening
+abbrev pub ends_opened : Meaning → Bool
+ends_opened meaning = (properties_of meaning).ends_opened
+
+-- whether the command only reads the medium, at every end: it opens no image and tells nothing
+abbrev pub only_reads : Meaning → Bool
+only_reads meaning = (properties_of meaning).only_reads
 
 -- the load of so many files, one of each
 abbrev pub load_of : ℕ → ℕ → ℕ → ℕ → List (List Request)
@@ -174,6 +166,14 @@ IsReachable (DriveLoad seed count number) opening done n = ⊤
 IsReachable (AuditRun printed files) opening done n = n ≤ last_of opening.number done
 IsReachable (ShipFiles files) opening done n = n ≤ last_of opening.number done
 IsReachable (FollowFiles files) opening done n = ⊤
+
+-- whether the command prints while it runs, so that some is printed also where the medium fails or there is no memory
+abbrev pub prints_early : Meaning → Bool
+prints_early meaning = (properties_of meaning).prints_early
+
+-- whether the headline is said of the command: one without it has a theorem of its own
+abbrev pub has_headline : Meaning → Bool
+has_headline meaning = (properties_of meaning).has_headline
 
 -- This text is the output of the command. It is a relation, since what is done doesn't fix the output of each command. What
 -- `follow` prints isn't said here: it does nothing of its own, and has a theorem of its own.

@@ -15,7 +15,7 @@ use Rattle.dude_engine.specs.Requests.{AreInRange, HasNumbersFor}
 use Rattle.run_threads.specs.Ends.{IsAsOpened}
 use Rattle.dude_program.specs.declared.ended.Ended.{Ended}
 use Rattle.dude_program.specs.declared.prepared.Prepared.{Prepared}
-use Rattle.dude_program.specs.Ending.{Ends}
+use Rattle.dude_program.specs.Ended.{Ends}
 use Rattle.dude_program.specs.Work.{AllowsFrames}
 use Rattle.dude_program.specs.World.{world_of}
 

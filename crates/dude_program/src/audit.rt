@@ -1,16 +1,14 @@
 //! `audit`: whether a printed run is a one-thread run of its files from the image at hand, which is only read.
 
 ghost use Rattle.command_edges.specs.Command.{Meaning.AuditRun};
-ghost use Rattle.command_edges.specs.Fault.{status_of};
 ghost use Rattle.command_edges.specs.Files.{AreInRange};
 ghost use Rattle.command_openings.specs.ImageRead.{OnlyReadsImage, opening_read};
 ghost use Rattle.dude_engine.specs.Opening.{IsOpening};
-ghost use Rattle.dude_program.specs.Ended.{EndedAs};
-ghost use Rattle.dude_program.specs.Ending.{Ends};
+ghost use Rattle.dude_program.specs.Ended.{EndedAs, Ends};
 ghost use Rattle.dude_program.specs.Judging.{IsAnswerFor, IsAnswerOn};
 ghost use Rattle.dude_program.specs.Work.{EndsBy};
 ghost use Rattle.pmem_trait.specs.Sights.{IsAtRest};
-ghost use Rattle.std.specs.Prelude.{◌≡◌, ◌++◌, ◌∷◌, [], codes, map, IfOk, None};
+ghost use Rattle.std.specs.Prelude.{◌++◌, ◌∷◌, [], codes, map, IfOk, None};
 ghost use Rattle.std.specs.Rc.{rc_str_bytes};
 
 use crate::ended::Ended;
@@ -67,14 +65,13 @@ fn print_yes<K: Sink>(out: &mut K) -> Option<Fault>
 /// Says whether a printed run is a one-thread run of the files of these names from the image on.
 pub fn audit<M: Medium, F: Files, K: Sink>(
     alloc: Global,
-    printed: &str,
     names: &[RcStr],
+    printed: &str,
     medium: M,
     files: &mut F,
     out: &mut K,
 ) -> Ended<M>
     requires settled { IsAtRest (M.sight medium) }
-    ensures status { result.status ≡ status_of result.fault }
     ensures ends { EndedAs (Ends (AuditRun printed.now (map rc_str_bytes names.now)))
         M.sight F.sight K.sight medium files.old files.new out.old out.new result }
 {

@@ -1,15 +1,13 @@
 //! The commands that make or open the image: each reads its files, makes or opens the image, does its work, and prints.
 
 ghost use Rattle.command_edges.specs.Command.{IsBetween, Meaning.FreshRun, Meaning.FormatImage, Meaning.DriveLoad};
-ghost use Rattle.command_edges.specs.Fault.{status_of};
 ghost use Rattle.dude_base.specs.Sizes.{AreTheSizes, IsFaultOf};
 ghost use Rattle.dude_base.specs.declared.limits.TheConstants.{MAX_RINGS};
-ghost use Rattle.dude_program.specs.Ended.{EndedAs, EndedWithoutFiles};
-ghost use Rattle.dude_program.specs.Ending.{Ends};
+ghost use Rattle.dude_program.specs.Ended.{EndedAs, EndedWithoutFiles, Ends};
 ghost use Rattle.dude_program.specs.Opening.{format_sizes};
 ghost use Rattle.dude_program.specs.Show.{meaning_of_shown};
 ghost use Rattle.pmem_trait.specs.Sights.{IsAtRest};
-ghost use Rattle.std.specs.Prelude.{◌≡◌, ◌≤◌, IfErr, IfOk};
+ghost use Rattle.std.specs.Prelude.{◌≤◌, IfErr, IfOk};
 
 use crate::ended::Ended;
 use crate::load::{Load, make_load};
@@ -50,7 +48,6 @@ pub fn fresh<M: Medium, F: Files, K: Sink>(
 ) -> Ended<M>
     requires settled { IsAtRest (M.sight medium) }
     requires subscribers { IsBetween 1 10_000 subscribers }
-    ensures status { result.status ≡ status_of result.fault }
     ensures ends { EndedAs (Ends (FreshRun subscribers file.now))
         M.sight F.sight K.sight medium files.old files.new out.old out.new result }
 {
@@ -101,7 +98,6 @@ pub fn format<M: Medium, K: Sink>(
     requires calls { IsBetween 1 120_000 counts.calls }
     requires rings { IsBetween 1 MAX_RINGS counts.rings }
     requires cells { IsBetween 16 4_096 counts.cells }
-    ensures status { result.status ≡ status_of result.fault }
     ensures ends { EndedWithoutFiles (Ends (FormatImage counts.indexed counts.subscribers
         counts.calls counts.rings counts.cells))
         M.sight K.sight medium out.old out.new result }
@@ -118,7 +114,6 @@ pub fn format<M: Medium, K: Sink>(
 /// Recovers the image, and prints this of it.
 pub fn show<M: Medium, K: Sink>(alloc: Global, shown: Shown, medium: M, out: &mut K) -> Ended<M>
     requires settled { IsAtRest (M.sight medium) }
-    ensures status { result.status ≡ status_of result.fault }
     ensures ends { EndedWithoutFiles (Ends (meaning_of_shown shown))
         M.sight K.sight medium out.old out.new result }
 {
@@ -146,7 +141,6 @@ pub fn drive<R: Threads + Sync, M: Medium + Send, K: Sink, G: Gate + Sync>(
     requires settled { IsAtRest (M.sight medium) }
     requires count { load.count ≤ 99_999 }
     requires files { IsBetween 1 MAX_RINGS load.files }
-    ensures status { result.status ≡ status_of result.fault }
     ensures ends { EndedWithoutFiles (Ends (DriveLoad load.seed load.count load.files))
         M.sight K.sight medium out.old out.new result }
 {

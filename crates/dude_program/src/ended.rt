@@ -19,12 +19,12 @@ pub struct Ended<M> {
     /// medium: at 8 at most the 256 of an open bundle, at 6 on one thread these and the one that it didn't take, and on
     /// threads perhaps more.
     pub done: Vec<Done>,
+    ghost exact: { status ≡ status_of fault },
 }
 
 impl<M> Ended<M> {
     /// The end of a command, with the status of its fault.
     pub fn new(fault: Option<Fault>, medium: M, done: Vec<Done>) -> Ended<M>
-        ensures status { result.status ≡ status_of result.fault }
         ensures fault { result.fault ≡ fault }
         ensures medium { result.medium ≡ medium }
         ensures done { result.done ≡ done }
@@ -43,7 +43,6 @@ impl<M> Ended<M> {
 
     /// Nothing is done, for this fault.
     pub fn refused(alloc: Global, fault: Fault, medium: M) -> Ended<M>
-        ensures status { result.status ≡ status_of result.fault }
         ensures fault { result.fault ≡ Some fault }
         ensures medium { result.medium ≡ medium }
         ensures done { result.done.items ≡ [] }

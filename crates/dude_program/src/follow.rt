@@ -1,11 +1,9 @@
 //! `follow`: takes the packets of files in order, and so brings the image up to the leader that sent them.
 
 ghost use Rattle.command_edges.specs.Command.{Meaning.FollowFiles};
-ghost use Rattle.command_edges.specs.Fault.{status_of};
 ghost use Rattle.dude_follow.specs.Follower.{follower_sizes};
 ghost use Rattle.dude_follow.specs.Packets.{IsPacket};
-ghost use Rattle.dude_program.specs.Ended.{EndedAs};
-ghost use Rattle.dude_program.specs.Ending.{Ends};
+ghost use Rattle.dude_program.specs.Ended.{EndedAs, Ends};
 ghost use Rattle.dude_program.specs.Follow.{FollowsFiles, followed_text};
 ghost use Rattle.dude_program.specs.Taking.{FollowerRests, IsDropCount, IsPacketsFault, MeansPackets, TakesList, TakesText, TakesTexts};
 ghost use Rattle.dude_program.specs.Work.{EndsBy};
@@ -156,9 +154,8 @@ pub fn follow<M: Medium, F: Files, K: Sink>(
     files: &mut F,
     out: &mut K,
 ) -> Ended<M>
-    requires settled { IsAtRest (M.sight medium) }
     requires some { 0 < length names.now }
-    ensures status { result.status ≡ status_of result.fault }
+    requires settled { IsAtRest (M.sight medium) }
     ensures ends { EndedAs (Ends (FollowFiles (map rc_str_bytes names.now)))
         M.sight F.sight K.sight medium files.old files.new out.old out.new result }
     ensures follows { FollowsFiles (map rc_str_bytes names.now)

@@ -1,13 +1,11 @@
 //! The command `locate`.
 
 ghost use Rattle.command_edges.specs.Command.{Meaning.LocateRange};
-ghost use Rattle.command_edges.specs.Fault.{status_of};
 ghost use Rattle.command_edges.specs.Located.{located_text};
-ghost use Rattle.dude_program.specs.Ended.{EndedWithoutFiles};
-ghost use Rattle.dude_program.specs.Ending.{Ends};
+ghost use Rattle.dude_program.specs.Ended.{EndedWithoutFiles, Ends};
 ghost use Rattle.dude_program.specs.Work.{EndsBy};
 ghost use Rattle.pmem_trait.specs.Sights.{IsAtRest};
-ghost use Rattle.std.specs.Prelude.{◌≡◌, ◌<◌, ◌^◌, None};
+ghost use Rattle.std.specs.Prelude.{◌<◌, ◌^◌, None};
 
 use crate::ended::Ended;
 use crate::locating::{LocationRange, find_located};
@@ -27,7 +25,6 @@ pub fn locate<M: Medium, K: Sink>(
     requires settled { IsAtRest (M.sight medium) }
     requires low { range.low < 2 ^ 32 }
     requires high { range.high < 2 ^ 32 }
-    ensures status { result.status ≡ status_of result.fault }
     ensures ends { EndedWithoutFiles (Ends (LocateRange range.low range.high range.limit))
         M.sight K.sight medium out.old out.new result }
 {

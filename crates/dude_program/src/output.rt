@@ -1,9 +1,9 @@
 //! What a command prints at its end, unless a fault came before.
 
-ghost use Rattle.command_edges.specs.Fault.{status_of};
+ghost use Rattle.dude_program.specs.Ended.{EndsWork};
 ghost use Rattle.dude_program.specs.Work.{EndsBy, lines_of, totals_of};
 ghost use Rattle.dude_recover.specs.Opened.{IsOpened};
-ghost use Rattle.std.specs.Prelude.{◌≡◌, None};
+ghost use Rattle.std.specs.Prelude.{None};
 ghost use Rattle.tatp_layout.specs.StandsFor.{StandsFor};
 ghost use Rattle.tatp_model.specs.Database.{Database, IsInOrder, database_of};
 ghost use Rattle.tatp_text.specs.Dump.{dump_text};
@@ -22,9 +22,7 @@ use tatp_text::{write_dump, write_summary};
 
 /// Prints a line for each request done and the last number, unless a fault came before.
 pub fn end_with_lines<M, K: Sink>(alloc: Global, worked: Worked<M>, out: &mut K) -> Ended<M>
-    ensures status { result.status ≡ status_of result.fault }
-    ensures medium { result.medium ≡ worked.medium }
-    ensures done { result.done ≡ worked.done }
+    ensures work { EndsWork worked result }
     ensures printed { EndsBy K.sight (lines_of worked) worked.fault result.fault out.old out.new }
 {
     let fault = match worked.fault {
@@ -47,9 +45,7 @@ fn print_summary<K: Sink>(alloc: Global, done: &[Done], out: &mut K) -> Option<F
 
 /// Prints the summary of a load, unless a fault came before.
 pub fn end_with_summary<M, K: Sink>(alloc: Global, worked: Worked<M>, out: &mut K) -> Ended<M>
-    ensures status { result.status ≡ status_of result.fault }
-    ensures medium { result.medium ≡ worked.medium }
-    ensures done { result.done ≡ worked.done }
+    ensures work { EndsWork worked result }
     ensures printed { EndsBy K.sight (totals_of worked) worked.fault result.fault out.old out.new }
 {
     let fault = match worked.fault {

@@ -1,9 +1,8 @@
 //! What a command starts from that runs files over the image at hand: they are read, and the image is opened and allows them.
 
-ghost use Rattle.command_edges.specs.Fault.{status_of};
 ghost use Rattle.dude_program.specs.Prepared.{EndsUnprepared, IsPrepared};
 ghost use Rattle.pmem_trait.specs.Sights.{IsAtRest};
-ghost use Rattle.std.specs.Prelude.{◌≡◌, IfErr, IfOk, map};
+ghost use Rattle.std.specs.Prelude.{IfErr, IfOk, map};
 ghost use Rattle.std.specs.Rc.{rc_str_bytes};
 
 use crate::checks::check_run;
@@ -36,7 +35,6 @@ pub fn prepare<M: Medium, F: Files>(
     requires settled { IsAtRest (M.sight medium) }
     ensures prepared { IfOk result (IsPrepared M.sight frames (map rc_str_bytes names.now) medium
         (F.sight files.old) (F.sight files.new)) }
-    ensures status { IfErr result (λ ended. ended.status ≡ status_of ended.fault) }
     ensures ends { IfErr result (EndsUnprepared M.sight frames (map rc_str_bytes names.now) medium
         (F.sight files.old) (F.sight files.new)) }
 {

@@ -2,10 +2,8 @@
 //! come.
 
 ghost use Rattle.command_edges.specs.Command.{IsBetween};
-ghost use Rattle.command_edges.specs.Fault.{status_of};
 ghost use Rattle.dude_base.specs.declared.limits.TheConstants.{MAX_LOCKS};
-ghost use Rattle.dude_program.specs.Ended.{EndedAs};
-ghost use Rattle.dude_program.specs.Ending.{Ends};
+ghost use Rattle.dude_program.specs.Ended.{EndedAs, EndsWork, Ends};
 ghost use Rattle.dude_program.specs.Run.{fault_of_stream, meaning_of_run};
 ghost use Rattle.pmem_trait.specs.Sights.{IsAtRest};
 ghost use Rattle.std.specs.Prelude.{◌≡◌, ◌<◌, IfSome, length, map};
@@ -28,9 +26,7 @@ use std::thread::Threads;
 
 // How a streamed run ended: with the fault of its run, or where it has none and the sink failed, with that.
 fn end_streamed<M>(worked: Worked<M>, sink_failed: bool) -> Ended<M>
-    ensures status { result.status ≡ status_of result.fault }
-    ensures medium { result.medium ≡ worked.medium }
-    ensures done { result.done ≡ worked.done }
+    ensures work { EndsWork worked result }
     ensures fault { result.fault ≡ fault_of_stream worked.fault sink_failed }
 {
     let fault = match worked.fault {
@@ -53,10 +49,9 @@ pub fn run<R: Threads + Sync, M: Medium + Send, F: Files, K: Sink + Send, G: Gat
     out: &mut K,
     gate: &G,
 ) -> Ended<M>
-    requires settled { IsAtRest (M.sight medium) }
     requires locks { IfSome options.locks (IsBetween 1 MAX_LOCKS) }
     requires some { 0 < length names.now }
-    ensures status { result.status ≡ status_of result.fault }
+    requires settled { IsAtRest (M.sight medium) }
     ensures ends { EndedAs (Ends (meaning_of_run time options (map rc_str_bytes names.now)))
         M.sight F.sight K.sight medium files.old files.new out.old out.new result }
 {

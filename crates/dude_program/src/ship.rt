@@ -1,10 +1,8 @@
 //! `ship`: runs the requests of files on one thread, and prints the bundles of its log as packets.
 
 ghost use Rattle.command_edges.specs.Command.{Meaning.ShipFiles};
-ghost use Rattle.command_edges.specs.Fault.{status_of};
 ghost use Rattle.dude_base.specs.Records.{HasNumbers};
-ghost use Rattle.dude_program.specs.Ended.{EndedAs};
-ghost use Rattle.dude_program.specs.Ending.{Ends};
+ghost use Rattle.dude_program.specs.Ended.{EndedAs, EndsWork, Ends};
 ghost use Rattle.dude_program.specs.Ship.{bytes_of_packets};
 ghost use Rattle.dude_program.specs.Work.{EndsBy};
 ghost use Rattle.pmem_trait.specs.Sights.{IsAtRest};
@@ -48,9 +46,7 @@ fn print_packets<K: Sink>(alloc: Global, packets: &[Bundle], out: &mut K) -> Opt
 // Prints the packets of a run, unless a fault came before.
 fn end_with_packets<M, K: Sink>(alloc: Global, shipping: Shipping<M>, out: &mut K) -> Ended<M>
     requires numbers { All HasNumbers shipping.packets.items }
-    ensures status { result.status ≡ status_of result.fault }
-    ensures medium { result.medium ≡ shipping.worked.medium }
-    ensures done { result.done ≡ shipping.worked.done }
+    ensures work { EndsWork shipping.worked result }
     ensures printed { EndsBy K.sight (bytes_of_packets shipping.packets.items)
         shipping.worked.fault result.fault out.old out.new }
 {
@@ -65,13 +61,12 @@ fn end_with_packets<M, K: Sink>(alloc: Global, shipping: Shipping<M>, out: &mut 
 /// Runs the requests of the files over the image, on one thread, and prints the bundles of its log as packets.
 pub fn ship<M: Medium, F: Files, K: Sink>(
     alloc: Global,
-    names: &[RcStr],
     medium: M,
+    names: &[RcStr],
     files: &mut F,
     out: &mut K,
 ) -> Ended<M>
     requires settled { IsAtRest (M.sight medium) }
-    ensures status { result.status ≡ status_of result.fault }
     ensures ends { EndedAs (Ends (ShipFiles (map rc_str_bytes names.now)))
         M.sight F.sight K.sight medium files.old files.new out.old out.new result }
 {

@@ -2,8 +2,7 @@
 
 ghost use Rattle.command_edges.specs.Command.{IsInLimits, meaning_of_command};
 ghost use Rattle.command_edges.specs.Fault.{status_of};
-ghost use Rattle.dude_program.specs.Ended.{EndedAs};
-ghost use Rattle.dude_program.specs.Ending.{CausesByWords, Ends, EndsByWords, FollowsByWords, HasOwnTheorem, HeadlineByWords, RefusesNoCommand};
+ghost use Rattle.dude_program.specs.Ended.{EndedAs, CausesByWords, Ends, EndsByWords, FollowsByWords, HasOwnTheorem, HeadlineByWords, RefusesNoCommand};
 ghost use Rattle.dude_program.specs.World.{world_of};
 ghost use Rattle.pmem_trait.specs.Sights.{IsAtRest};
 ghost use Rattle.std.specs.Prelude.{◌≡◌, map};
@@ -40,9 +39,8 @@ fn carry_out<R: Threads + Sync, M: Medium + Send, F: Files, K: Sink + Send, G: G
     out: &mut K,
     gate: &G,
 ) -> Ended<M>
-    requires settled { IsAtRest (M.sight medium) }
     requires limits { IsInLimits command.now }
-    ensures status { result.status ≡ status_of result.fault }
+    requires settled { IsAtRest (M.sight medium) }
     ensures ends { EndedAs (Ends (meaning_of_command command.now))
         M.sight F.sight K.sight medium files.old files.new out.old out.new result }
     ensures own { HasOwnTheorem (meaning_of_command command.now)
@@ -83,8 +81,8 @@ fn carry_out<R: Threads + Sync, M: Medium + Send, F: Files, K: Sink + Send, G: G
             locks,
             files: names,
         } => {
-            let options = RunOptions { frames, locks };
             let time = PrintTime::Meanwhile;
+            let options = RunOptions { frames, locks };
             run(rt, alloc, time, options, names, medium, files, out, gate)
         }
         Command::Recover => show(alloc, Shown::Number, medium, out),
@@ -100,8 +98,8 @@ fn carry_out<R: Threads + Sync, M: Medium + Send, F: Files, K: Sink + Send, G: G
         Command::Audit {
             printed,
             files: names,
-        } => audit(alloc, printed, names, medium, files, out),
-        Command::Ship { files: names } => ship(alloc, names, medium, files, out),
+        } => audit(alloc, names, printed, medium, files, out),
+        Command::Ship { files: names } => ship(alloc, medium, names, files, out),
         Command::Follow { files: names } => follow(alloc, names, medium, files, out),
     }
 }

@@ -16,11 +16,13 @@ use Rattle.dude_program.proofs.EachCommand.{fresh_makes}
 use Rattle.dude_program.proofs.Works.{one_count}
 use Rattle.dude_program.proofs.commands.fresh.Goals as goal
 
-pub returns-in-Err-clause-ends : goal.returns-in-Err-clause-ends
-returns-in-Err-clause-ends g c =
-    rw (c.refused.ensures.medium, c.refused.ensures.done, c.refused.ensures.fault)
-    (ends_at_files (FreshRun c.args.subscribers c.args.file.now) (prefix_at_rest (FreshRun c.args.subscribers c.args.file.now) (g.M.Medium.sight c.args.medium) c.requires.settled)
-    c.in-Err.fault c.in-Err.ensures.reads c.in-Err.ensures.cause c.in-Err.ensures.missing)
+pub returns-in-Err : goal.returns-in-Err
+returns-in-Err g c = record {
+  ends =
+      rw (c.refused.ensures.medium, c.refused.ensures.done, c.refused.ensures.fault)
+      (ends_at_files (FreshRun c.args.subscribers c.args.file.now) (prefix_at_rest (FreshRun c.args.subscribers c.args.file.now) (g.M.Medium.sight c.args.medium) c.requires.settled)
+      c.in-Err.fault c.in-Err.ensures.reads c.in-Err.ensures.cause c.in-Err.ensures.missing);
+}
 
 pub work-requires-clause-rings : goal.work-requires-clause-rings
 work-requires-clause-rings g c =
@@ -35,22 +37,26 @@ work-requires-clause-numbers g c =
     let number : 0 ≡ c.in-Ok-make_and_open.opened.number = c.in-Ok-make_and_open.ensures.opening.number in
     rw c.deref.ensures.value (omega (arith, few, number))
 
-pub returns-in-Ok-make_and_open-clause-ends : goal.returns-in-Ok-make_and_open-clause-ends
-returns-in-Ok-make_and_open-clause-ends g c =
-    let e = c.in-Ok-make_and_open.ensures in
-    let maker = fresh_makes c.args.subscribers c.args.file.now c.in-Ok.sizes (g.M.Medium.sight c.args.medium) c.in-Ok.ensures.ok.0 in
-    let read : AllZip (OfFile (g.F.Files.sight c.args.files.now)) (c.args.file.now ∷ []) (requests_in c.deref.result.now) = rw c.deref.ensures.value c.in-Ok-read_files.ensures.read in
-    let came = came_ran (fresh_files c.args.subscribers c.args.file.now (requests_in c.deref.result.now) read c.in-Ok-read_files.ensures.reads) (opened_new maker e.fits e.is_open)
-    refl (λ known. tt) (reachable (FreshRun c.args.subscribers c.args.file.now) (new_opening c.in-Ok.sizes)) refl read
-    (λ opens. let no : ⊥ = cc in absurd no) c.work.result.fault (c.work.ensures _ e.opening) in
-    rw (c.end_with_lines.ensures.medium, c.end_with_lines.ensures.done) (ends_printed _ _ _ came (λ whole. (refl, tt)) c.end_with_lines.ensures.printed)
+pub returns-in-Ok-make_and_open : goal.returns-in-Ok-make_and_open
+returns-in-Ok-make_and_open g c = record {
+  ends =
+      let e = c.in-Ok-make_and_open.ensures in
+      let maker = fresh_makes c.args.subscribers c.args.file.now c.in-Ok.sizes (g.M.Medium.sight c.args.medium) c.in-Ok.ensures.ok.0 in
+      let read : AllZip (OfFile (g.F.Files.sight c.args.files.now)) (c.args.file.now ∷ []) (requests_in c.deref.result.now) = rw c.deref.ensures.value c.in-Ok-read_files.ensures.read in
+      let came = came_ran (fresh_files c.args.subscribers c.args.file.now (requests_in c.deref.result.now) read c.in-Ok-read_files.ensures.reads) (opened_new maker e.fits e.is_open)
+      refl (λ known. tt) (reachable (FreshRun c.args.subscribers c.args.file.now) (new_opening c.in-Ok.sizes)) refl read
+      (λ opens. let no : ⊥ = cc in absurd no) c.work.result.fault (c.work.ensures _ e.opening) in
+      rw (c.end_with_lines.ensures.work.medium, c.end_with_lines.ensures.work.done) (ends_printed _ _ _ came (λ whole. (refl, tt)) c.end_with_lines.ensures.printed);
+}
 
-pub returns-clause-ends : goal.returns-clause-ends
-returns-clause-ends g c =
-    let maker = fresh_makes c.args.subscribers c.args.file.now c.in-Ok.sizes (g.M.Medium.sight c.args.medium) c.in-Ok.ensures.ok.0 in
-    rw (c.refused-in-Err-make_and_open.ensures.medium, c.refused-in-Err-make_and_open.ensures.done, c.refused-in-Err-make_and_open.ensures.fault)
-    (ends_at_format maker (fresh_files c.args.subscribers c.args.file.now (requests_in c.in-Ok-read_files.lists.items) c.in-Ok-read_files.ensures.read c.in-Ok-read_files.ensures.reads)
-    c.in-Err-make_and_open.ensures.prefix c.in-Err-make_and_open.fault c.in-Err-make_and_open.ensures.fault)
+pub returns : goal.returns
+returns g c = record {
+  ends =
+      let maker = fresh_makes c.args.subscribers c.args.file.now c.in-Ok.sizes (g.M.Medium.sight c.args.medium) c.in-Ok.ensures.ok.0 in
+      rw (c.refused-in-Err-make_and_open.ensures.medium, c.refused-in-Err-make_and_open.ensures.done, c.refused-in-Err-make_and_open.ensures.fault)
+      (ends_at_format maker (fresh_files c.args.subscribers c.args.file.now (requests_in c.in-Ok-read_files.lists.items) c.in-Ok-read_files.ensures.read c.in-Ok-read_files.ensures.reads)
+      c.in-Err-make_and_open.ensures.prefix c.in-Err-make_and_open.fault c.in-Err-make_and_open.ensures.fault);
+}
 
 pub work-requires-clause-in_range : goal.work-requires-clause-in_range
 work-requires-clause-in_range g c = rw c.deref.ensures.value c.in-Ok-read_files.ensures.in_range

@@ -50,7 +50,7 @@ returns-in-Err-new g c =
     image.ensures.is_open image.ensures.recovered in
     let ended = c.refused-in-Err-new.ensures in
     let medium = ended.medium ∙ (c.into_medium.ensures ∙ ap (λ x. medium_of x.back) c.in-Err-new.ensures.refused) in
-    record { status = ended.status; ends = rw (medium, ended.done, ended.fault) both.0; follows = rw (medium, ended.fault) both.1 }
+    record { ends = rw (medium, ended.done, ended.fault) both.0; follows = rw (medium, ended.fault) both.1 }
 
 pub take_texts-requires-clause-rests : goal.take_texts-requires-clause-rests
 take_texts-requires-clause-rests g c =
@@ -71,7 +71,7 @@ returns-in-Ok-take_texts g c =
     let ended = c.new-in-Ok-take_texts-2.ensures in
     let medium = ended.medium ∙ c.into_medium-in-Ok-take_texts.ensures in
     let done = ap (λ v. v.items) ended.done ∙ c.new-in-Ok-take_texts.ensures.items in
-    record { status = ended.status; ends = rw (medium, done, ended.fault) both.0; follows = rw (medium, ended.fault) both.1 }
+    record { ends = rw (medium, done, ended.fault) both.0; follows = rw (medium, ended.fault) both.1 }
 
 -- a text stopped it
 pub returns : goal.returns
@@ -84,4 +84,4 @@ returns g c =
     (rw (length-map c.args.names.now rc_str_bytes) c.requires.some) c.deref.result.now c.deref.ensures.value made.follower c.take_texts.new.follower made.ensures.starts made.ensures.holds c.in-Err-take_texts.fault c.in-Err-take_texts.ensures in
     let ended = c.refused-in-Err-take_texts.ensures in
     let medium = ended.medium ∙ c.into_medium-in-Err-take_texts.ensures in
-    record { status = ended.status; ends = rw (medium, ended.done, ended.fault) both.0; follows = rw (medium, ended.fault) both.1 }
+    record { ends = rw (medium, ended.done, ended.fault) both.0; follows = rw (medium, ended.fault) both.1 }

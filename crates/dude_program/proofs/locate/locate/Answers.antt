@@ -20,26 +20,32 @@ find_located-requires g c =
       high = c.requires.high;
     }
 
-pub returns-in-Ok-find_located-clause-ends : goal.returns-in-Ok-find_located-clause-ends
-returns-in-Ok-find_located-clause-ends g c f =
-    let r = c.args.range in
-    let o = c.in-Ok.opened in
-    let opened = c.in-Ok.ensures.opened in
-    let came = came_opened (LocateRange r.low r.high r.limit) g.M.Medium.sight c.args.medium o opened c.in-Ok.ensures.is_open f (locate_opens r.low r.high r.limit) refl refl refl (locate_passes r.low r.high r.limit) in
-    let located = subst (Locates r.low r.high r.limit opened.lawful.0.subscribers) (sym c.deref.ensures.value) (c.in-Ok-find_located.ensures opened.lawful.0 (subst (λ (s : Sizes). StandsFor s o.words.items opened.lawful.0) (sym opened.layout) opened.lawful.1)) in
-    rw (c.new-in-Ok-find_located.ensures.medium, c.new-in-Ok-find_located.ensures.done, c.new-in-Ok-find_located.ensures.fault, c.into_medium.ensures, c.new.ensures.items)
-    (ends_printed _ _ _ came (λ whole. ((c.deref.result.now, located, refl), tt)) c.print_found-fault.ensures)
+pub returns-in-Ok-find_located : goal.returns-in-Ok-find_located
+returns-in-Ok-find_located g c = record {
+  ends = λ f.
+      let r = c.args.range in
+      let o = c.in-Ok.opened in
+      let opened = c.in-Ok.ensures.opened in
+      let came = came_opened (LocateRange r.low r.high r.limit) g.M.Medium.sight c.args.medium o opened c.in-Ok.ensures.is_open f (locate_opens r.low r.high r.limit) refl refl refl (locate_passes r.low r.high r.limit) in
+      let located = subst (Locates r.low r.high r.limit opened.lawful.0.subscribers) (sym c.deref.ensures.value) (c.in-Ok-find_located.ensures opened.lawful.0 (subst (λ (s : Sizes). StandsFor s o.words.items opened.lawful.0) (sym opened.layout) opened.lawful.1)) in
+      rw (c.new-in-Ok-find_located.ensures.medium, c.new-in-Ok-find_located.ensures.done, c.new-in-Ok-find_located.ensures.fault, c.into_medium.ensures, c.new.ensures.items)
+      (ends_printed _ _ _ came (λ whole. ((c.deref.result.now, located, refl), tt)) c.print_found-fault.ensures);
+}
 
-pub returns-in-Err-find_located-clause-ends : goal.returns-in-Err-find_located-clause-ends
-returns-in-Err-find_located-clause-ends g c f =
-    let r = c.args.range in
-    let came =
-    came_opened (LocateRange r.low r.high r.limit) g.M.Medium.sight c.args.medium c.in-Ok.opened c.in-Ok.ensures.opened c.in-Ok.ensures.is_open f (locate_opens r.low r.high r.limit) refl refl refl (locate_passes r.low r.high r.limit) in
-    rw (c.refused-in-Err-find_located.ensures.medium, c.refused-in-Err-find_located.ensures.done, c.refused-in-Err-find_located.ensures.fault, c.into_medium-in-Err-find_located.ensures)
-    (ends_untold came)
+pub returns-in-Err-find_located : goal.returns-in-Err-find_located
+returns-in-Err-find_located g c = record {
+  ends = λ f.
+      let r = c.args.range in
+      let came =
+      came_opened (LocateRange r.low r.high r.limit) g.M.Medium.sight c.args.medium c.in-Ok.opened c.in-Ok.ensures.opened c.in-Ok.ensures.is_open f (locate_opens r.low r.high r.limit) refl refl refl (locate_passes r.low r.high r.limit) in
+      rw (c.refused-in-Err-find_located.ensures.medium, c.refused-in-Err-find_located.ensures.done, c.refused-in-Err-find_located.ensures.fault, c.into_medium-in-Err-find_located.ensures)
+      (ends_untold came);
+}
 
-pub returns-in-Err-clause-ends : goal.returns-in-Err-clause-ends
-returns-in-Err-clause-ends g c f =
-    let r = c.args.range in
-    rw (c.refused.ensures.medium, c.refused.ensures.done, c.refused.ensures.fault)
-    (ends_at_open (locate_opens r.low r.high r.limit _) (no_files (LocateRange r.low r.high r.limit) f refl) c.in-Err.ensures.prefix (unless_opened (locate_opens r.low r.high r.limit _) refl c.in-Err.ensures.only_read) c.in-Err.fault c.in-Err.ensures.fault)
+pub returns-in-Err : goal.returns-in-Err
+returns-in-Err g c = record {
+  ends = λ f.
+      let r = c.args.range in
+      rw (c.refused.ensures.medium, c.refused.ensures.done, c.refused.ensures.fault)
+      (ends_at_open (locate_opens r.low r.high r.limit _) (no_files (LocateRange r.low r.high r.limit) f refl) c.in-Err.ensures.prefix (unless_opened (locate_opens r.low r.high r.limit _) refl c.in-Err.ensures.only_read) c.in-Err.fault c.in-Err.ensures.fault);
+}

@@ -26,18 +26,8 @@ returns-in-Ok-check_run-clause-prepared g c =
     let o = c.in-Ok-open_and_announce.opened in
     let image = c.in-Ok-open_and_announce.ensures in
     let checked = rw c.deref.ensures.value at c.in-Ok-check_run.ensures in
-    record {
-      reads = files.reads;
-      read = files.read;
-      in_range = files.in_range;
-      opened = image.opened;
-      is_open = image.is_open;
-      recovered = image.recovered;
-      held = held_as_opened o image.opened (g.M.Medium.sight c.args.medium) (image.is_open (opening_of o image.opened) (is_opening_of o image.opened)).1;
-      rings = checked.rings;
-      allows = checked.frames;
-      numbers = checked.numbers;
-    }
+    let held = held_as_opened o image.opened (g.M.Medium.sight c.args.medium) (image.is_open (opening_of o image.opened) (is_opening_of o image.opened)).1 in
+    record { reads = files.reads; read = files.read; in_range = files.in_range; opened = image.opened; is_open = image.is_open; recovered = image.recovered; held = held; rings = checked.rings; allows = checked.frames; numbers = checked.numbers }
 
 pub returns-in-Err-check_run-clause-ends : goal.returns-in-Err-check_run-clause-ends
 returns-in-Err-check_run-clause-ends g c own sink is =

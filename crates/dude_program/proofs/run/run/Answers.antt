@@ -14,27 +14,32 @@ pub streamed-streamed-requires-clause-may : goal.streamed-streamed-requires-clau
 streamed-streamed-requires-clause-may g c κs inside =
     rw c.deref-in-Meanwhile.ensures.value (may_run c.args.options c.in-Ok.ensures.prepared c.over-run.result c.over-run.ensures.within (rw (length-map c.args.names.now rc_str_bytes) c.requires.some))
 
-pub returns-in-AtEnd-clause-ends : goal.returns-in-AtEnd-clause-ends
-returns-in-AtEnd-clause-ends g c =
-    let ready = c.in-Ok.ensures.prepared in
-    let says = c.threaded-ran.ensures in
-    let worked = c.from_ran.ensures in
-    let ran = ran_on_threads c.in-Ok.field-0.opened ready.opened c.over-run.result c.deref.result.now c.threaded-ran.result says.replies says.syncs says.moments says.end c.from_ran.result worked.done worked.medium worked.last worked.fault in
-    rw (c.end_with_lines.ensures.medium, c.end_with_lines.ensures.done)
-    (ends_at_end c.args.options ready c.over-run.result c.over-run.ensures.frames c.deref.ensures.value c.from_ran.result ran c.in-AtEnd.is c.end_with_lines.result.fault c.end_with_lines.ensures.printed)
+pub returns-in-AtEnd : goal.returns-in-AtEnd
+returns-in-AtEnd g c = record {
+  ends =
+      let ready = c.in-Ok.ensures.prepared in
+      let worked = c.from_ran.ensures in
+      let ran = ran_on_threads c.in-Ok.field-0.opened ready.opened c.over-run.result c.deref.result.now c.threaded-ran.result c.threaded-ran.ensures c.from_ran.result worked.done worked.medium worked.last worked.fault in
+      rw (c.end_with_lines.ensures.work.medium, c.end_with_lines.ensures.work.done)
+      (ends_at_end c.args.options ready c.over-run.result c.over-run.ensures.frames c.deref.ensures.value c.from_ran.result ran c.in-AtEnd.is c.end_with_lines.result.fault c.end_with_lines.ensures.printed);
+}
 
-pub returns-in-Ok-clause-ends : goal.returns-in-Ok-clause-ends
-returns-in-Ok-clause-ends g c =
-    let ready = c.in-Ok.ensures.prepared in
-    let run = c.streamed-streamed.result in
-    let says = c.streamed-streamed.ensures in
-    let is = c.from_ran-in-Meanwhile.ensures in
-    rw (c.end_streamed.ensures.medium, c.end_streamed.ensures.done, c.end_streamed.ensures.fault)
-    (ends_meanwhile c.args.options ready c.over-run.result c.over-run.ensures.frames c.deref-in-Meanwhile.ensures.value c.from_ran-in-Meanwhile.result
-    (ran_on_threads c.in-Ok.field-0.opened ready.opened c.over-run.result c.deref-in-Meanwhile.result.now run.ran says.replies says.syncs says.moments says.end c.from_ran-in-Meanwhile.result is.done is.medium is.last is.fault)
-    c.in-Meanwhile.is run.sink_failed (streamed_so run.sink_failed (g.K.Sink.sight c.args.out.now) (g.K.Sink.sight c.streamed-streamed.new.out) run.ran c.from_ran-in-Meanwhile.result is.done is.last is.fault says.printed))
+pub returns-in-Ok : goal.returns-in-Ok
+returns-in-Ok g c = record {
+  ends =
+      let ready = c.in-Ok.ensures.prepared in
+      let run = c.streamed-streamed.result in
+      let says = c.streamed-streamed.ensures in
+      let is = c.from_ran-in-Meanwhile.ensures in
+      rw (c.end_streamed.ensures.work.medium, c.end_streamed.ensures.work.done, c.end_streamed.ensures.fault)
+      (ends_meanwhile c.args.options ready c.over-run.result c.over-run.ensures.frames c.deref-in-Meanwhile.ensures.value c.from_ran-in-Meanwhile.result
+      (ran_on_threads c.in-Ok.field-0.opened ready.opened c.over-run.result c.deref-in-Meanwhile.result.now run.ran says.runs c.from_ran-in-Meanwhile.result is.done is.medium is.last is.fault)
+      c.in-Meanwhile.is run.sink_failed (streamed_so run.sink_failed (g.K.Sink.sight c.args.out.now) (g.K.Sink.sight c.streamed-streamed.new.out) run.ran c.from_ran-in-Meanwhile.result is.done is.last is.fault says.printed));
+}
 
-pub returns-clause-ends : goal.returns-clause-ends
-returns-clause-ends g c =
-    let names = map rc_str_bytes c.args.names.now in
-    c.in-Err.ensures.ends (meaning_of_run c.args.time c.args.options names) (g.K.Sink.sight c.args.out.now) (carries_out c.args.time c.args.options names)
+pub returns : goal.returns
+returns g c = record {
+  ends =
+      let names = map rc_str_bytes c.args.names.now in
+      c.in-Err.ensures.ends (meaning_of_run c.args.time c.args.options names) (g.K.Sink.sight c.args.out.now) (carries_out c.args.time c.args.options names);
+}
