@@ -139,9 +139,12 @@ impl Play {
             "run" => self.files.say_run(alloc, lay, flat.words(), page),
             "bundles" => self.files.say_bundles(alloc, lay, flat.words(), page),
             "open" => say_open(alloc, lay, flat.words(), numbers, page),
-            "images" => self
-                .files
-                .say_images(alloc, lay, flat.words(), numbers, page),
+            "images" => match *numbers {
+                [every, last] => self
+                    .files
+                    .say_images(alloc, lay, flat.words(), every, last, page),
+                _ => page.line("not run"),
+            },
             "failing" => self
                 .files
                 .say_failing(alloc, lay, flat.words(), numbers, page),

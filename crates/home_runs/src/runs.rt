@@ -110,25 +110,25 @@ impl Files {
     }
 
     /// Runs the files, takes the images that a crash may leave at every so many moments, with the settled words and with the
-    /// first later ones, and prints whether each is that of a run of updates up to the last number. The numbers are the count of
-    /// moments and the last number.
+    /// first later ones, and prints whether each is that of a run of updates up to the last number.
     pub fn say_images(
         &self,
         alloc: Global,
         lay: &Layout,
         words: &[u64],
-        numbers: &[u64],
+        every: u64,
+        last: u64,
         page: &mut Page,
     ) {
-        let (Some(ran), [every, last]) = (self.run(alloc, lay, words, 0), numbers) else {
+        let Some(ran) = self.run(alloc, lay, words, 0) else {
             return page.line("not run");
         };
         let Ok(ones) = vec![in alloc; 1; ran.medium.content().len()] else {
             return page.cut();
         };
-        for moment in (0..ran.medium.now().saturating_add(1)).step_by((*every).max(1) as usize) {
-            if !is_of_updates(alloc, &ran.medium, moment, &[], *last)
-                || !is_of_updates(alloc, &ran.medium, moment, &ones, *last)
+        for moment in (0..ran.medium.now().saturating_add(1)).step_by(every.max(1) as usize) {
+            if !is_of_updates(alloc, &ran.medium, moment, &[], last)
+                || !is_of_updates(alloc, &ran.medium, moment, &ones, last)
             {
                 return page.numbers("another image at moment", &[moment]);
             }

@@ -36,11 +36,11 @@ impl Words for Stopping {
 
     ghost turns_into = { HasSameWords };
 
-    ghost well_formed = { stopping_well_formed };
-
     ghost begins = { λ x. refl };
 
     ghost goes_on = { λ x y z first next. next ∙ first };
+
+    ghost well_formed = { stopping_well_formed };
 
     fn len(&self) -> u64 {
         self.flat.len()

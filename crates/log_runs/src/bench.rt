@@ -16,7 +16,7 @@ use dude_base::bundle::Bundle;
 use dude_base::redo::Redo;
 use dude_io::FilePmem;
 use pmem_fake::MemPmem;
-use script_words::{is_remark, number_at, number_of, numbers_of, pairs_of, words_of};
+use script_words::{TakeLine, number_at, number_of, numbers_of, pairs_of, words_of};
 use std::{io, mem};
 
 /// What a script's lines are carried out on.
@@ -74,26 +74,6 @@ impl Bench {
             bundle: Bundle::one(&Redo::new(0)),
             steps: Vec::new(rt.alloc()),
             texts: Vec::new(rt.alloc()),
-        }
-    }
-
-    /// Follows a script.
-    pub fn follow(&mut self, script: &str) -> io::Result<()> {
-        for line in script.lines() {
-            self.take_line(line)?;
-        }
-        Ok(())
-    }
-
-    /// Prints a remark again, and carries out another line.
-    fn take_line(&mut self, line: &str) -> io::Result<()> {
-        if is_remark(line) {
-            return self.rt.println(line);
-        }
-        let words = words_of(self.rt.alloc(), line)?;
-        match words.as_slice() {
-            [name, rest @ ..] => self.carry_out(name, rest),
-            [] => self.rt.println("no command"),
         }
     }
 
@@ -372,5 +352,15 @@ impl Bench {
         let count = text.len();
         self.texts.push((name, text))?;
         println!(self.rt; "{count} bytes")
+    }
+}
+
+impl TakeLine for Bench {
+    fn take_line(&mut self, line: &str) -> io::Result<()> {
+        let words = words_of(self.rt.alloc(), line)?;
+        match words.as_slice() {
+            [name, rest @ ..] => self.carry_out(name, rest),
+            [] => self.rt.println("no command"),
+        }
     }
 }

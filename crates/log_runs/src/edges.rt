@@ -1,4 +1,5 @@
 //! Files and sinks, in memory and of the system.
+
 ghost use Rattle.std.specs.Prelude.{◌≤◌};
 
 use crate::say::say_done;

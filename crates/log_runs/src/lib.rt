@@ -20,9 +20,10 @@ mod say;
 mod trial;
 
 use bench::Bench;
+use script_words::take_lines;
 use std::io;
 
 /// Carries out a script, and prints what it leaves.
 pub fn follow(rt: HostRuntime, script: &str) -> io::Result<()> {
-    Bench::new(rt).follow(script)
+    take_lines(rt, &mut Bench::new(rt), script)
 }

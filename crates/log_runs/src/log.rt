@@ -1,4 +1,5 @@
 //! A ring of the small image, with the last number that was appended to it.
+
 ghost use Rattle.dude_base.specs.Sizes.{sizes_for};
 ghost use Rattle.std.specs.Prelude.{◌≡◌, ◌≤◌, All};
 

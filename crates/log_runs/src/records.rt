@@ -1,4 +1,5 @@
 //! Redo records and bundles as a script says them.
+
 ghost use Rattle.dude_base.specs.Sizes.{IsAccepted, sizes_for};
 ghost use Rattle.std.specs.Prelude.{◌≡◌, ◌<◌, All, IsTrue, IfSome};
 

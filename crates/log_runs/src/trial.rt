@@ -1,4 +1,5 @@
 //! A back over a medium in memory, with what was persisted on it: it persists only what it may.
+
 ghost use Rattle.back_store.specs.Back.{waiting_now};
 ghost use Rattle.back_store.specs.BackView.{state_of};
 ghost use Rattle.dude_base.specs.Sizes.{sizes_for};

@@ -13,6 +13,19 @@ use dude_recover::{Opened, open};
 use pmem_fake::MemPmem;
 use std::alloc::{AllocError, Global};
 
+/// The name of an answer.
+fn answer_name(answer: Result<Taken, FollowFault>) -> &'static str {
+    match answer {
+        Ok(Taken::Old) => "old",
+        Ok(Taken::Strange) => "strange",
+        Ok(Taken::Applied { .. }) => "applied",
+        Ok(Taken::Kept) => "kept",
+        Ok(Taken::Dropped { .. }) => "dropped",
+        Err(FollowFault::Device) => "device",
+        Err(FollowFault::Dead) => "dead",
+    }
+}
+
 /// `follow ROOM NAME`: opens the image, and says what a follower with room for so many packets answers to those of a file.
 pub fn followed(
     alloc: Global,
@@ -63,17 +76,4 @@ fn answers_to(
         text = format!(in alloc; "{text}{}, ", answer_name(answer))?;
     }
     format!(in alloc; "{text}{} kept\n", follower.waiting())
-}
-
-/// The name of an answer.
-fn answer_name(answer: Result<Taken, FollowFault>) -> &'static str {
-    match answer {
-        Ok(Taken::Old) => "old",
-        Ok(Taken::Strange) => "strange",
-        Ok(Taken::Applied { .. }) => "applied",
-        Ok(Taken::Kept) => "kept",
-        Ok(Taken::Dropped { .. }) => "dropped",
-        Err(FollowFault::Device) => "device",
-        Err(FollowFault::Dead) => "dead",
-    }
 }

@@ -11,7 +11,7 @@ use crate::stage::Stage;
 use dude_base::limits::PAGE;
 use dude_base::run::Run;
 use dude_base::sizes::Sizes;
-use script_words::{is_remark, number_of, numbers_of, words_of};
+use script_words::{TakeLine, number_of, numbers_of, words_of};
 use std::{io, mem};
 use tiny_stm::stm_fault::StmFault;
 
@@ -48,30 +48,6 @@ impl Bench {
             },
             stage: None,
             moves: Vec::new(rt.alloc()),
-        }
-    }
-
-    /// Follows a script.
-    pub fn follow(&mut self, script: &str) -> io::Result<()> {
-        for line in script.lines() {
-            self.take_line(line)?;
-        }
-        Ok(())
-    }
-
-    /// Prints a remark again, and carries out another line.
-    fn take_line(&mut self, line: &str) -> io::Result<()> {
-        if is_remark(line) {
-            return self.rt.println(line);
-        }
-        let words = words_of(self.rt.alloc(), line)?;
-        match words.as_slice() {
-            ["close"] => self.close(),
-            ["failures"] => say_failures(self.rt, &self.ground()),
-            ["moments"] => say_moments(self.rt, &self.ground()),
-            ["pass", who] => self.say_pass(number_of(who).unwrap_or(u64::MAX)),
-            [name @ ("image" | "run"), rest @ ..] => self.begin(name, rest),
-            _ => self.play(line),
         }
     }
 
@@ -167,6 +143,20 @@ impl Bench {
             opening: self.opening,
             settings: &self.settings,
             moves: &self.moves,
+        }
+    }
+}
+
+impl TakeLine for Bench {
+    fn take_line(&mut self, line: &str) -> io::Result<()> {
+        let words = words_of(self.rt.alloc(), line)?;
+        match words.as_slice() {
+            ["close"] => self.close(),
+            ["failures"] => say_failures(self.rt, &self.ground()),
+            ["moments"] => say_moments(self.rt, &self.ground()),
+            ["pass", who] => self.say_pass(number_of(who).unwrap_or(u64::MAX)),
+            [name @ ("image" | "run"), rest @ ..] => self.begin(name, rest),
+            _ => self.play(line),
         }
     }
 }

@@ -17,9 +17,10 @@ mod stage;
 mod transacting;
 
 use bench::Bench;
+use script_words::take_lines;
 use std::io;
 
 /// Carries out a script, and prints what it leaves.
 pub fn follow(rt: HostRuntime, script: &str) -> io::Result<()> {
-    Bench::new(rt).follow(script)
+    take_lines(rt, &mut Bench::new(rt), script)
 }

@@ -113,36 +113,26 @@ impl Stage {
         if who.min(other) != 0 || who == other || k >= self.others.len() {
             return Outcome::Nothing;
         }
-        let (answer, ended) = if who == 0 {
-            self.first_around(k, around, seen)
-        } else {
-            self.other_around(k, around, seen)
-        };
+        let (answer, ended) = self.around_at(k, who == 0, around, seen);
         Outcome::Around(answer, ended)
     }
 
-    fn first_around(
+    // Has the other pass at `k` do something between accesses of the first one, or the other way round.
+    fn around_at(
         &mut self,
         k: usize,
+        is_of_first: bool,
         around: &Around,
         seen: &mut Vec<(u64, u64)>,
     ) -> (Option<Answer>, Ended)
         requires { k < length self.old.others.items }
     {
         let other = &mut self.others[k];
-        transact_around(&self.stm, &mut self.first, other, self.alloc, around, seen)
-    }
-
-    fn other_around(
-        &mut self,
-        k: usize,
-        around: &Around,
-        seen: &mut Vec<(u64, u64)>,
-    ) -> (Option<Answer>, Ended)
-        requires { k < length self.old.others.items }
-    {
-        let other = &mut self.others[k];
-        transact_around(&self.stm, other, &mut self.first, self.alloc, around, seen)
+        if is_of_first {
+            transact_around(&self.stm, &mut self.first, other, self.alloc, around, seen)
+        } else {
+            transact_around(&self.stm, other, &mut self.first, self.alloc, around, seen)
+        }
     }
 
     /// Joins all passes, and closes.

@@ -2,7 +2,7 @@
 
 use crate::audits::{changed, judge};
 use crate::faults::faults;
-use crate::files::{files, reads, shared};
+use crate::files::{files, reads, shared, world_of};
 use crate::numbers::{dump, last, load};
 use crate::page::{page_of, push_count};
 use crate::replies::done_of;
@@ -89,9 +89,17 @@ impl Bench {
             "again" => self.serve_again(numbers, out),
             "summary" => Ok(write_summary(&self.served, out)?),
             "file" => self.add_file(words, out),
-            "files" => files(&self.files, &names_among(self.alloc, words)?, numbers, out),
-            "reads" => reads(&self.files, &names_among(self.alloc, words)?, numbers, out),
-            "shared" => shared(&self.files, words, out),
+            "files" => files(
+                world_of(&self.files, numbers, out)?,
+                &names_among(self.alloc, words)?,
+                out,
+            ),
+            "reads" => reads(
+                world_of(&self.files, numbers, out)?,
+                &names_among(self.alloc, words)?,
+                out,
+            ),
+            "shared" => shared(world_of(&self.files, &[], out)?, words, out),
             "sink" => self.open_sink(numbers, out),
             "print" => self.print(numbers, out),
             "text" => self.print_text(words, out),

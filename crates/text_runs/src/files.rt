@@ -15,25 +15,13 @@ use tatp_model::Request;
 /// How many bytes a read gives at most. A file that is shorter takes two reads: its bytes, and its end.
 const MOST: u64 = 4096;
 
-/// The requests of the files of these names, of which the calls `fail` fail.
-pub fn files(
-    files: &[MemFile],
-    names: &[&str],
-    fail: &[u64],
-    out: &mut Vec<u8>,
-) -> Result<(), Stop> {
-    let mut world = world_of(files, fail, out)?;
+/// The requests of the files of these names.
+pub fn files(mut world: MemFiles, names: &[&str], out: &mut Vec<u8>) -> Result<(), Stop> {
     Ok(push_lists(read_files(*out.allocator(), names, &mut world), out)?)
 }
 
-/// The reads that it takes to read the files of these names, of which the calls `fail` fail.
-pub fn reads(
-    files: &[MemFile],
-    names: &[&str],
-    fail: &[u64],
-    out: &mut Vec<u8>,
-) -> Result<(), Stop> {
-    let mut world = world_of(files, fail, out)?;
+/// The reads that it takes to read the files of these names.
+pub fn reads(mut world: MemFiles, names: &[&str], out: &mut Vec<u8>) -> Result<(), Stop> {
     let _ = read_files(*out.allocator(), names, &mut world);
     for read in world.reads() {
         let name = read.name.as_str();
@@ -46,9 +34,8 @@ pub fn reads(
 }
 
 /// The requests of the files of these names, which are shared texts.
-pub fn shared(files: &[MemFile], names: &[&str], out: &mut Vec<u8>) -> Result<(), Stop> {
+pub fn shared(mut world: MemFiles, names: &[&str], out: &mut Vec<u8>) -> Result<(), Stop> {
     let names = shared_words(*out.allocator(), names)?;
-    let mut world = world_of(files, &[], out)?;
     Ok(push_lists(read_files(*out.allocator(), &names, &mut world), out)?)
 }
 

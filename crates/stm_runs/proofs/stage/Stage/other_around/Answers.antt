@@ -1,6 +1,0 @@
-use Rattle.tiny_stm.specs.Tables.{table_of}
-use Rattle.stm_runs.proofs.Held.{at_rests}
-use Rattle.stm_runs.proofs.stage.Stage.other_around.Goals as goal
-
-pub transact_around-requires-clause-rests : goal.transact_around-requires-clause-rests
-transact_around-requires-clause-rests c = at_rests (table_of c.args.self.now.stm) c.args.self.now.first c.args.self.now.others.items c.args.k c.index_mut-other.result.now c.requires c.index_mut-other.ensures.value c.args.self.now.held
