@@ -107,7 +107,8 @@ fn announce<M: Medium>(back: &mut Back<M>) -> Result<(), Failed>
     ensures goes_on { GoesOn (is_ok result) (state_of back.old) (sight_of back.old)
         (state_of back.new) (sight_of back.new) }
     ensures announces { OnOk result ((b : RedoBundle) → WaitsAlone b (state_of back.old)
-        → AnnouncesAlone b (state_of back.old) (sight_of back.old) (state_of back.new) (sight_of back.new)) }
+        → AnnouncesAlone b (state_of back.old) (sight_of back.old) (state_of back.new)
+        (sight_of back.new)) }
     ensures moments { (b : RedoBundle) → WaitsAlone b (state_of back.old)
         → RecoversThrough (b ∷ []) (state_of back.old) (sight_of back.old) (sight_of back.new) }
 {
@@ -124,7 +125,8 @@ fn reproduce_all<M: Medium>(back: &mut Back<M>) -> Result<(), Failed>
         (state_of back.new) (sight_of back.new) }
     ensures reproduces { OnOk result ((b : RedoBundle) → WaitsAlone b (state_of back.old)
         → (state_of back.old).log.durable ≡ b.last
-        → ReproducesAlone b (state_of back.old) (sight_of back.old) (state_of back.new) (sight_of back.new)) }
+        → ReproducesAlone b (state_of back.old) (sight_of back.old) (state_of back.new)
+        (sight_of back.new)) }
     ensures number { OnErr result
         ((state_of back.new).log.reproduced ≡ (state_of back.old).log.reproduced) }
     ensures moments { (b : RedoBundle) → WaitsAlone b (state_of back.old)
