@@ -24,10 +24,10 @@ use Rattle.stm_transactions.specs.declared.pass_numbers.PassNumbers.{PassNumbers
 use Rattle.stm_transactions.specs.Numbers.{with_refusals}
 use Rattle.stm_transactions.specs.Passes.{PassSight, IsResting, pass_view}
 use Rattle.stm_transactions.specs.declared.tx.TxOver.{TxOver}
-use Rattle.stm_transactions.specs.declared.reads.ReadList.{Ghosts}
+use Rattle.stm_transactions.specs.declared.transaction_lists.TransactionLists.{Ghosts}
 use Rattle.stm_transactions.specs.Counts.{after_commit}
 use Rattle.stm_transactions.specs.Stops.{counts}
-use Rattle.stm_transactions.specs.Transactions.{tx_sight, tx_table, tx_view, tx_numbers, tx_reads, TurnsInto, HasBegun}
+use Rattle.stm_transactions.specs.Transactions.{tx_sight, tx_table, tx_view, tx_numbers, tx_reads, tx_writes, TurnsInto, HasBegun}
 use Rattle.stm_transactions.specs.Ends.{HasAborted, HasCommitted, HasLostCommit, entry_of}
 use Rattle.legal_entries.proofs.Serving.{served_entry}
 use Rattle.request_attempts.specs.Served.{HasServed}
@@ -61,7 +61,7 @@ missed_inside z ws page v w inside h =
 lost_inside : (z : Setup) (thread snapshot : ℕ) (reads : List (ℕ × ℕ)) (ws : List Write) (l : Lost) (v w : View) → All (λ x. x.at < z.pages * PAGE) ws → IsLost z thread snapshot reads ws l v w → (page : ℕ) → l ≡ lost.Out page → page < z.pages
 lost_inside z thread snapshot reads ws l v w inside h page is = missed_inside z ws page v w inside (subst (λ (x : Lost). IsLost z thread snapshot reads ws x v w) is h)
 
-module _ {S X K P R : Type 0} {g : Ghosts R} (e : TableSight K) (p r : PassSight X) (t0 t : TxOver S X K P R g) (begun : HasBegun e p t0) (turns : TurnsInto t0 t) where
+module _ {S X K P L : Type 0} {g : Ghosts L} (e : TableSight K) (p r : PassSight X) (t0 t : TxOver S X K P L g) (begun : HasBegun e p t0) (turns : TurnsInto t0 t) where
   pub events : tx_table t ≡ e
   events = ap (λ s. s.events) turns.stm ∙ begun.table
 
@@ -92,27 +92,27 @@ module _ {S X K P R : Type 0} {g : Ghosts R} (e : TableSight K) (p r : PassSight
     part = u.part ∙ part;
     entries = u.entries ∙ entries;
     refusals = t.refused;
-    numbers = u.numbers ∙ (ap (λ (b : Bool). with_refusals t.refused (after_commit b (Err l) (tx_table t).setup.boxes (tx_numbers t))) (wrote_some t.writes u.some)
+    numbers = u.numbers ∙ (ap (λ (b : Bool). with_refusals t.refused (after_commit b (Err l) (tx_table t).setup.boxes (tx_numbers t))) (wrote_some (tx_writes t) u.some)
         ∙ (ap (λ (y : TableSight K). with_refusals t.refused (after_commit true (Err l) y.setup.boxes (tx_numbers t))) events ∙ ap (λ (f : PassNumbers). with_refusals t.refused (after_commit true (Err l) e.setup.boxes f)) numbers));
-    inside = λ page is. subst (λ (y : TableSight K). page < y.setup.pages) events (lost_inside (tx_table t).setup t.numbers.thread t.snapshot (tx_reads t) t.writes l (tx_view t) (pass_view r) t.running.inside u.why page is);
+    inside = λ page is. subst (λ (y : TableSight K). page < y.setup.pages) events (lost_inside (tx_table t).setup t.numbers.thread t.snapshot (tx_reads t) (tx_writes t) l (tx_view t) (pass_view r) t.running.inside u.why page is);
   }
 
   pub served_as : (s : Sizes) (file index : ℕ) (q : Request) (reply : Reply) (d : Done) → is_sync q ≡ false → Answers s q reply (tx_sight t).reads (tx_sight t).writes
       → HasCommitted file index q reply t r d → HasServed e s file index q p r d × CountsEntry e d.number p r
   served_as s file index q reply d no_sync answers h =
-      let d0 : Done = record { file = file; index = index; number = d.number; wrote = has_writes t.writes; request = q; reply = reply } in
+      let d0 : Done = record { file = file; index = index; number = d.number; wrote = has_writes (tx_writes t); request = q; reply = reply } in
       let same : d ≡ d0 = h.done in
       let last : t.numbers.last ≡ p.numbers.last = ap (λ (f : PassNumbers). f.last) numbers in (
         record {
           rests = subst (λ (y : TableSight K). IsResting y r) events h.rests;
           at = (ap (λ (x : Done). x.file) same, ap (λ (x : Done). x.index) same, ap (λ (x : Done). x.request) same);
-          entry = entry_of d0 (tx_reads t) t.writes;
+          entry = entry_of d0 (tx_reads t) (tx_writes t);
           part = h.part ∙ part;
-          entries = h.entries ∙ (ap (λ (x : Done). (tx_view t).entries ++ entry_of x (tx_reads t) t.writes ∷ []) same ∙ ap (λ (l : List Entry). l ++ entry_of d0 (tx_reads t) t.writes ∷ []) entries);
+          entries = h.entries ∙ (ap (λ (x : Done). (tx_view t).entries ++ entry_of x (tx_reads t) (tx_writes t) ∷ []) same ∙ ap (λ (l : List Entry). l ++ entry_of d0 (tx_reads t) (tx_writes t) ∷ []) entries);
           done = sym same;
-          served = served_entry s (tx_sight t) (entry_of d0 (tx_reads t) t.writes) no_sync (record { reads = refl; writes = refl; wrote = says_writes t.writes }) answers;
+          served = served_entry s (tx_sight t) (entry_of d0 (tx_reads t) (tx_writes t)) no_sync (record { reads = refl; writes = refl; wrote = says_writes (tx_writes t) }) answers;
           last = (let l = h.last in omega arith);
-          over = λ wrote. (let o = h.over (some_writes t.writes (sym (ap (λ (x : Done). x.wrote) same) ∙ wrote)) in omega arith);
+          over = λ wrote. (let o = h.over (some_writes (tx_writes t) (sym (ap (λ (x : Done). x.wrote) same) ∙ wrote)) in omega arith);
         },
-        (t.refused, has_writes t.writes, h.numbers ∙ (ap (λ (y : TableSight K). with_refusals t.refused (after_commit (has_writes t.writes) (Ok d.number) y.setup.boxes (tx_numbers t))) events ∙ ap (λ (f : PassNumbers). with_refusals t.refused (after_commit (has_writes t.writes) (Ok d.number) e.setup.boxes f)) numbers)),
+        (t.refused, has_writes (tx_writes t), h.numbers ∙ (ap (λ (y : TableSight K). with_refusals t.refused (after_commit (has_writes (tx_writes t)) (Ok d.number) y.setup.boxes (tx_numbers t))) events ∙ ap (λ (f : PassNumbers). with_refusals t.refused (after_commit (has_writes (tx_writes t)) (Ok d.number) e.setup.boxes f)) numbers)),
       )

@@ -2,7 +2,6 @@
 
 use core_table::slot_rule::SlotRule;
 use core_table::stm::Stm;
-use std::alloc::Global;
 use tatp_layout::Layout;
 
 /// What requests are tried with: the steps of transactions, the layout of the home, the gate that each transaction passes,
@@ -10,7 +9,6 @@ use tatp_layout::Layout;
 #[derive(Drop)]
 pub struct Attempts<'a, S, X, K, P: SlotRule<S, X, K>, G, T> {
     pub stm: &'a Stm<S, X, K, P>,
-    pub alloc: Global,
     pub lay: &'a Layout,
     pub gate: &'a G,
     pub turns: &'a T,

@@ -13,7 +13,6 @@ use crate::tried::Tried;
 use crate::turns::Turns;
 use crate::unserved::Unserved;
 use core_table::stm::Stm;
-use std::alloc::Global;
 use std::hint::spin_loop;
 use stm_transactions::box_rule::BoxRule;
 use stm_transactions::pass::Pass;
@@ -52,7 +51,6 @@ pub fn serve_one<
     stm: &Stm<S, X, K, P>,
     turns: &T,
     p: &mut Pass<X>,
-    alloc: Global,
     lay: &Layout,
     file: u64,
     index: u64,
@@ -69,7 +67,6 @@ pub fn serve_one<
 {
     let attempts = Attempts {
         stm,
-        alloc,
         lay,
         gate,
         turns,

@@ -125,7 +125,7 @@ impl<
         ensures { AfterOnce self.now.stm.now.events self.now.lay.now file index q.now
             result p.old p.new }
     {
-        match begin_in(p, self.stm, self.alloc) {
+        match begin_in(p, self.stm) {
             Err(BoxFull { seen }) => Once::Full(seen),
             Ok(mut tx) => match run_request(self.lay, &mut tx, q) {
                 Err(stop) => Once::Stopped(stop),

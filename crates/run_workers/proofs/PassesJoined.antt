@@ -140,6 +140,11 @@ module _ {X K : Type 0} (t : TableSight K) where
           let again : mixed p.numbers.last p.numbers.durable p.numbers.met_fault ≡ record p.numbers { left = r.numbers.left; splits = r.numbers.splits } = ap (λ (x : PassNumbers). let y : PassNumbers = record p.numbers { left = x.left; splits = x.splits } in y) (sym one) in
           one ∙ again
 
+  -- the pass of the last job rests
+  pub popped_rests : (jobs left : List (Job X)) (job : Job X) → jobs ≡ left ++ job ∷ [] → All (λ j. IsNewcomer t j.pass) jobs → IsResting t job.pass
+  popped_rests jobs left job parts newcomers =
+      let each = subst (λ (l : List (Job X)). All (λ x. IsNewcomer t x.pass) l) parts newcomers in (All-head (λ (x : Job X). IsNewcomer t x.pass) job [] (all_behind (λ (x : Job X). IsNewcomer t x.pass) left (job ∷ []) each)).rests
+
   -- the last job was popped, and its pass came back
   pub back_popped : (jobs left popped all : List (Job X)) (job : Job X) (p q r : PassSight X) → IsResting t p → t.setup.first ≤ p.numbers.durable → jobs ≡ left ++ job ∷ [] → All (λ j. IsNewcomer t j.pass) jobs → jobs ++ popped ≡ all → HasTakenBack t popped p q
       → IsJoined t q job.pass r → All (λ j. IsNewcomer t j.pass) left × ((more : List (Job X)) × (left ++ more ≡ all) × HasTakenBack t more p r)

@@ -87,7 +87,9 @@ impl<'a, S, X, K, P: TransactionRule<S, X, K>, T, G> Work<'a, S, X, K, P, T, G> 
     {
         let_transact(self.stm);
         let done = room_for(self.alloc, requests.len())?;
-        let pass = first.split(self.stm, DRAWS * requests.len() as u64).ok()?;
+        let pass = first
+            .split(self.stm, self.alloc, DRAWS * requests.len() as u64)
+            .ok()?;
         Some(Job {
             file,
             pass,

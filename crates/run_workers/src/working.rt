@@ -95,7 +95,6 @@ impl<
             self.stm,
             self.turns,
             &mut job.pass,
-            self.alloc,
             self.lay,
             job.file,
             index as u64,

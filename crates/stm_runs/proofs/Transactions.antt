@@ -8,7 +8,7 @@ use Rattle.core_table.specs.Layout.{TableSight}
 use Rattle.stm_transactions.specs.declared.lost.Lost.{Lost}
 use Rattle.stm_transactions.specs.Passes.{IsRefused, IsResting, PassSight, pass_view}
 use Rattle.stm_transactions.specs.declared.tx.TxOver.{TxOver}
-use Rattle.stm_transactions.specs.declared.reads.ReadList.{Ghosts}
+use Rattle.stm_transactions.specs.declared.transaction_lists.TransactionLists.{Ghosts}
 use Rattle.stm_transactions.specs.Ends.{HasAborted, HasCommitted, HasLostCommit}
 use Rattle.stm_transactions.specs.Transactions.{HasBegun, TurnsInto, tx_numbers, tx_table, tx_view}
 use Rattle.tiny_stm.specs.Turned.{KeepsWork}
@@ -25,7 +25,7 @@ module _ {X K : Type 0} (t : TableSight K) (p q : PassSight X) where
   pub turned : IsResting t q → KeepsWork p q → StaysWith t p q
   turned r w = record { rests = r; part = w.part }
 
-module _ {S X K P R : Type 0} {g : Ghosts R} (e : TableSight K) (p r : PassSight X) (t0 t : TxOver S X K P R g) (begun : HasBegun e p t0) (turns : TurnsInto t0 t) where
+module _ {S X K P L : Type 0} {g : Ghosts L} (e : TableSight K) (p r : PassSight X) (t0 t : TxOver S X K P L g) (begun : HasBegun e p t0) (turns : TurnsInto t0 t) where
   events : tx_table t ≡ e
   events = ap (λ s. s.events) turns.stm ∙ begun.table
 

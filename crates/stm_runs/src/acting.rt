@@ -8,22 +8,15 @@ use crate::moves::Act;
 use crate::outcome::Answer;
 use crate::transacting::transact;
 use pmem_fake::MemPmem;
-use std::alloc::Global;
 use tiny_stm::stm::{Pass, Stm};
 
 /// Has the pass do this, and keeps what it read.
-pub fn act_by(
-    stm: &Stm<MemPmem>,
-    p: &mut Pass,
-    alloc: Global,
-    act: &Act,
-    seen: &mut Vec<(u64, u64)>,
-) -> Answer
+pub fn act_by(stm: &Stm<MemPmem>, p: &mut Pass, act: &Act, seen: &mut Vec<(u64, u64)>) -> Answer
     requires { IsResting (table_of stm.now) p.old }
     ensures { StaysWith (table_of stm.now) p.old p.new }
 {
     match act {
-        Act::Transact(accesses) => Answer::Ended(transact(stm, p, alloc, accesses, seen)),
+        Act::Transact(accesses) => Answer::Ended(transact(stm, p, accesses, seen)),
         Act::Pump => Answer::Pumped(stm.pump(p)),
         Act::Fetch(page) if *page < stm.steps().events.pages() => {
             Answer::Fetched(stm.fetch(p, *page))

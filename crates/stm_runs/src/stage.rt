@@ -69,7 +69,8 @@ impl Stage {
     pub fn play(&mut self, made: &Move, seen: &mut Vec<(u64, u64)>) -> Outcome {
         match made {
             Move::Split(draws) => {
-                split_off(&self.stm, &mut self.first, &mut self.others, *draws)
+                let others = &mut self.others;
+                split_off(&self.stm, &mut self.first, self.alloc, others, *draws)
             }
             Move::Join => join_last(&self.stm, &mut self.first, &mut self.others),
             Move::One { who, act } => match self.act(*who, act, seen) {
@@ -92,13 +93,13 @@ impl Stage {
     // Has one pass do something.
     fn act(&mut self, who: u64, act: &Act, seen: &mut Vec<(u64, u64)>) -> Option<Answer> {
         if who == 0 {
-            return Some(act_by(&self.stm, &mut self.first, self.alloc, act, seen));
+            return Some(act_by(&self.stm, &mut self.first, act, seen));
         }
         let k = (who - 1) as usize;
         if k >= self.others.len() {
             return None;
         }
-        Some(act_by(&self.stm, &mut self.others[k], self.alloc, act, seen))
+        Some(act_by(&self.stm, &mut self.others[k], act, seen))
     }
 
     // Has one pass do something between accesses of another one; one of them is the first pass.
@@ -129,9 +130,9 @@ impl Stage {
     {
         let other = &mut self.others[k];
         if is_of_first {
-            transact_around(&self.stm, &mut self.first, other, self.alloc, around, seen)
+            transact_around(&self.stm, &mut self.first, other, around, seen)
         } else {
-            transact_around(&self.stm, other, &mut self.first, self.alloc, around, seen)
+            transact_around(&self.stm, other, &mut self.first, around, seen)
         }
     }
 
@@ -149,14 +150,20 @@ impl Stage {
 }
 
 /// The first pass gives so many draws to a new one.
-fn split_off(stm: &Stm<MemPmem>, first: &mut Pass, others: &mut Vec<Pass>, draws: u64) -> Outcome
+fn split_off(
+    stm: &Stm<MemPmem>,
+    first: &mut Pass,
+    alloc: Global,
+    others: &mut Vec<Pass>,
+    draws: u64,
+) -> Outcome
     requires { AreHeld (table_of stm.now) first.old others.old.items }
     ensures { AreHeld (table_of stm.now) first.new others.new.items }
 {
     if draws > first.left() || others.reserve(1).is_err() {
         return Outcome::Nothing;
     }
-    match stm.split(first, draws) {
+    match stm.split(first, alloc, draws) {
         Ok(pass) => {
             let new = pass.left();
             others.push_reserved(pass);

@@ -9,7 +9,6 @@ use crate::acting::act_by;
 use crate::moves::{Access, Act};
 use crate::outcome::{Answer, Ended};
 use pmem_fake::MemPmem;
-use std::alloc::Global;
 use stm_transactions::begin::begin_in;
 use stm_transactions::box_full::BoxFull;
 use tatp_model::reply::Reply;
@@ -53,7 +52,6 @@ fn access_all<W: Words>(
 pub fn transact(
     stm: &Stm<MemPmem>,
     p: &mut Pass,
-    alloc: Global,
     accesses: &[Access],
     seen: &mut Vec<(u64, u64)>,
 ) -> Ended
@@ -63,7 +61,7 @@ pub fn transact(
     if p.left() == 0 {
         return Ended::NoDraw;
     }
-    match begin_in(p, stm.steps(), alloc) {
+    match begin_in(p, stm.steps()) {
         Err(BoxFull { seen }) => Ended::Full(seen),
         Ok(mut tx) => match access_all(&mut tx, accesses, seen) {
             Err(stop) => Ended::Stopped(stop),
@@ -91,7 +89,6 @@ pub fn transact_around(
     stm: &Stm<MemPmem>,
     p: &mut Pass,
     q: &mut Pass,
-    alloc: Global,
     around: &Around,
     seen: &mut Vec<(u64, u64)>,
 ) -> (Option<Answer>, Ended)
@@ -103,12 +100,12 @@ pub fn transact_around(
     if p.left() == 0 {
         return (None, Ended::NoDraw);
     }
-    match begin_in(p, stm.steps(), alloc) {
+    match begin_in(p, stm.steps()) {
         Err(BoxFull { seen }) => (None, Ended::Full(seen)),
         Ok(mut tx) => match access_all(&mut tx, around.before, seen) {
             Err(stop) => (None, Ended::Stopped(stop)),
             Ok(()) => {
-                let answer = act_by(stm, q, alloc, around.act, seen);
+                let answer = act_by(stm, q, around.act, seen);
                 match access_all(&mut tx, around.after, seen) {
                     Err(stop) => (Some(answer), Ended::Stopped(stop)),
                     Ok(()) => match tx.commit(0, 0, &Request::Sync, &Reply::Changed) {

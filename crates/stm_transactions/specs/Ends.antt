@@ -11,7 +11,7 @@ use Rattle.stm_transactions.specs.CommitEnds.{HasEnded, IsLost, has_writes, draw
 use Rattle.stm_transactions.specs.Numbers.{with_refusals}
 use Rattle.stm_transactions.specs.Passes.{PassSight, IsResting, pass_view}
 use Rattle.stm_transactions.specs.declared.tx.TxOver.{TxOver}
-use Rattle.stm_transactions.specs.declared.reads.ReadList.{Ghosts}
+use Rattle.stm_transactions.specs.declared.transaction_lists.TransactionLists.{Ghosts}
 use Rattle.stm_transactions.specs.Counts.{after_commit}
 use Rattle.stm_transactions.specs.Transactions.{tx_numbers, tx_reads, tx_refused, tx_table, tx_view, tx_writes}
 
@@ -19,13 +19,13 @@ use Rattle.stm_transactions.specs.Transactions.{tx_numbers, tx_reads, tx_refused
 abbrev pub entry_of : Done → List (ℕ × ℕ) → List Write → Entry
 entry_of d reads ws = record { number = d.number; wrote = d.wrote; about = about d.file d.index d.request d.reply; reads = reads; writes = ws }
 
-module _ {S X K P R : Type 0} {g : Ghosts R} where
+module _ {S X K P L : Type 0} {g : Ghosts L} where
   -- with writes, its pass may draw a number
-  abbrev pub HasDrawLeft : TxOver S X K P R g → Type 0
+  abbrev pub HasDrawLeft : TxOver S X K P L g → Type 0
   HasDrawLeft t = 0 < length (tx_writes t) → 0 < (tx_numbers t).left
 
   -- The pass is whose it was, and has one entry more, of what is done: where nothing was written, at the snapshot
-  pub record HasCommitted (file index : ℕ) (q : Request) (r : Reply) (t : TxOver S X K P R g) (p : PassSight X) (d : Done) : Type 0 where
+  pub record HasCommitted (file index : ℕ) (q : Request) (r : Reply) (t : TxOver S X K P L g) (p : PassSight X) (d : Done) : Type 0 where
     pub rests : IsResting (tx_table t) p
     pub done : d ≡ record { file = file; index = index; number = d.number; wrote = has_writes (tx_writes t); request = q; reply = r }
     pub entries : (pass_view p).entries ≡ (tx_view t).entries ++ entry_of d (tx_reads t) (tx_writes t) ∷ []
@@ -38,7 +38,7 @@ module _ {S X K P R : Type 0} {g : Ghosts R} where
     pub numbers : p.numbers ≡ with_refusals (tx_refused t) (after_commit (has_writes (tx_writes t)) (Ok d.number) (tx_table t).setup.boxes (tx_numbers t))
 
   -- It has no entry more, and this is why. That comes only with writes
-  pub record HasLostCommit (t : TxOver S X K P R g) (p : PassSight X) (l : Lost) : Type 0 where
+  pub record HasLostCommit (t : TxOver S X K P L g) (p : PassSight X) (l : Lost) : Type 0 where
     pub rests : IsResting (tx_table t) p
     pub some : 0 < length (tx_writes t)
     pub entries : (pass_view p).entries ≡ (tx_view t).entries
@@ -48,7 +48,7 @@ module _ {S X K P R : Type 0} {g : Ghosts R} where
     pub numbers : p.numbers ≡ with_refusals (tx_refused t) (after_commit (has_writes (tx_writes t)) (Err l) (tx_table t).setup.boxes (tx_numbers t))
 
   -- It has none, and drew no number
-  pub record HasAborted (t : TxOver S X K P R g) (p : PassSight X) : Type 0 where
+  pub record HasAborted (t : TxOver S X K P L g) (p : PassSight X) : Type 0 where
     pub rests : IsResting (tx_table t) p
     pub ended : HasEnded (tx_view t) (pass_view p)
     pub numbers : p.numbers ≡ with_refusals (tx_refused t) (tx_numbers t)

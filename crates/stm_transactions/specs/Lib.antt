@@ -21,3 +21,4 @@ pub mod Pages
 pub mod Draws
 pub mod Settles
 pub mod CommitEnds
+pub mod Kept

@@ -17,7 +17,7 @@ use Rattle.stm_transactions.specs.Reads.{IsReadStop}
 use Rattle.stm_transactions.specs.declared.pass_numbers.PassNumbers.{PassNumbers}
 use Rattle.stm_transactions.specs.Passes.{PassSight, pass_view}
 use Rattle.stm_transactions.specs.declared.tx.TxOver.{TxOver}
-use Rattle.stm_transactions.specs.declared.reads.ReadList.{Ghosts}
+use Rattle.stm_transactions.specs.declared.transaction_lists.TransactionLists.{Ghosts}
 use Rattle.stm_transactions.specs.Stops.{CountsStop, after_stop}
 
 -- why a write of the word `at` stopped for another transaction
@@ -25,45 +25,45 @@ abbrev pub IsWriteStop : {X : Type 0} → Setup → ℕ → ℕ → List (ℕ ×
 IsWriteStop z thread snapshot reads at (Conflict lock seen) v k = IsOwnStop z thread snapshot reads (lock_of z at) lock seen v k
 IsWriteStop z thread snapshot reads at _ v k = ⊥
 
-module _ {S X K P R : Type 0} {g : Ghosts R} where
+module _ {S X K P L : Type 0} {g : Ghosts L} where
   -- the table that it runs on
-  abbrev pub tx_table : TxOver S X K P R g → TableSight K
+  abbrev pub tx_table : TxOver S X K P L g → TableSight K
   tx_table t = t.stm.now.events
 
   -- the view of its seat
-  abbrev pub tx_view : TxOver S X K P R g → View
+  abbrev pub tx_view : TxOver S X K P L g → View
   tx_view t = t.seat.me.0.view
 
   -- its reads, each a word's number and the value found there
-  abbrev pub tx_reads : TxOver S X K P R g → List (ℕ × ℕ)
+  abbrev pub tx_reads : TxOver S X K P L g → List (ℕ × ℕ)
   tx_reads t = g.reads t.lists
 
   -- its writes, which are pending
-  abbrev pub tx_writes : TxOver S X K P R g → List Write
-  tx_writes t = t.writes
+  abbrev pub tx_writes : TxOver S X K P L g → List Write
+  tx_writes t = g.writes t.lists
 
   -- the numbers of its pass, as they were at its begin
-  abbrev pub tx_numbers : TxOver S X K P R g → PassNumbers
+  abbrev pub tx_numbers : TxOver S X K P L g → PassNumbers
   tx_numbers t = t.numbers
 
   -- how many refusals it counted
-  abbrev pub tx_refused : TxOver S X K P R g → ℕ
+  abbrev pub tx_refused : TxOver S X K P L g → ℕ
   tx_refused t = t.refused
 
   -- what is seen of it as words
-  abbrev pub tx_sight : TxOver S X K P R g → WordsSight
-  tx_sight t = record { count = (tx_table t).setup.pages * PAGE; reads = tx_reads t; writes = t.writes; stopped = t.stopped }
+  abbrev pub tx_sight : TxOver S X K P L g → WordsSight
+  tx_sight t = record { count = (tx_table t).setup.pages * PAGE; reads = tx_reads t; writes = tx_writes t; stopped = t.stopped }
 
   -- its reads and writes are of words of the home, and its writes are of different words
-  pub tx_well_formed : (t : TxOver S X K P R g) → IsWellFormed (tx_sight t)
+  pub tx_well_formed : (t : TxOver S X K P L g) → IsWellFormed (tx_sight t)
   tx_well_formed t = record { count = (let p = t.belongs.small.pages in omega arith); reads_inside = t.reads_inside; writes = t.running.list; inside = t.running.inside }
 
   -- refusals were counted for its last Stop, and a page that was out exists
-  abbrev pub HasCountedStop : TxOver S X K P R g → Type 0
+  abbrev pub HasCountedStop : TxOver S X K P L g → Type 0
   HasCountedStop t = CountsStop (tx_table t).setup (tx_sight t).stopped (tx_refused t)
 
   -- It is the pass's, begun behind a look at its empty box, with nothing read or written
-  pub record HasBegun (e : TableSight K) (p : PassSight X) (t : TxOver S X K P R g) : Type 0 where
+  pub record HasBegun (e : TableSight K) (p : PassSight X) (t : TxOver S X K P L g) : Type 0 where
     pub table : tx_table t ≡ e
     pub view : tx_view t ≡ view_after e.setup begin (view_after e.setup see_box (pass_view p) 0) t.snapshot
     pub numbers : tx_numbers t ≡ p.numbers
@@ -73,23 +73,23 @@ module _ {S X K P R : Type 0} {g : Ghosts R} where
     pub no_stop : (tx_sight t).stopped ≡ None
 
   -- Why a read of the word `at` stopped: memory is wanting, and no step was made, or its page or a lock hinders it
-  abbrev pub StopsReading : ℕ → TxOver S X K P R g → TxOver S X K P R g → Stop → Type 0
+  abbrev pub StopsReading : ℕ → TxOver S X K P L g → TxOver S X K P L g → Stop → Type 0
   StopsReading at t u stop = ((stop ≡ NoMemory) × (tx_view u ≡ tx_view t)) ⊎ IsReadStop (tx_table t).setup t.numbers.thread t.snapshot (tx_reads t) at stop (tx_view t) (tx_view u)
 
   -- Why a write of the word `at` stopped: it would be of a word too many, and no step was made, or a lock hinders it
-  abbrev pub StopsWriting : ℕ → TxOver S X K P R g → TxOver S X K P R g → Stop → Type 0
+  abbrev pub StopsWriting : ℕ → TxOver S X K P L g → TxOver S X K P L g → Stop → Type 0
   StopsWriting at t u stop = ((stop ≡ Wide) × (tx_view u ≡ tx_view t)) ⊎ IsWriteStop (tx_table t).setup t.numbers.thread t.snapshot (tx_reads t) at stop (tx_view t) u.seat.me.0
 
   -- a call that handed on such a Stop, or none, counts refusals as it says
-  abbrev pub CountsRefusal : {T : Type 0} → Result T Stop → TxOver S X K P R g → TxOver S X K P R g → Type 0
+  abbrev pub CountsRefusal : {T : Type 0} → Result T Stop → TxOver S X K P L g → TxOver S X K P L g → Type 0
   CountsRefusal result t u = tx_refused u ≡ after_stop (stop_of result) (tx_refused t)
 
   -- the pages that it keeps and pins are as before
-  abbrev pub KeepsPages : TxOver S X K P R g → TxOver S X K P R g → Type 0
+  abbrev pub KeepsPages : TxOver S X K P L g → TxOver S X K P L g → Type 0
   KeepsPages t u = (tx_view u).paging ≡ (tx_view t).paging
 
   -- It is of the same pass and table, and no entry and no draw is new; refusals only grow
-  pub record TurnsInto (t u : TxOver S X K P R g) : Type 0 where
+  pub record TurnsInto (t u : TxOver S X K P L g) : Type 0 where
     pub same_pass : u.pass.ghost_name ≡ t.pass.ghost_name
     pub pass : u.pass.now ≡ t.pass.now
     pub stm : u.stm.now ≡ t.stm.now
@@ -103,11 +103,11 @@ module _ {S X K P R : Type 0} {g : Ghosts R} where
     pub refused : tx_refused t ≤ tx_refused u
 
   -- it turns into itself
-  pub turns_begin : (x : TxOver S X K P R g) → TurnsInto x x
+  pub turns_begin : (x : TxOver S X K P L g) → TurnsInto x x
   turns_begin x = record { same_pass = refl; pass = refl; stm = refl; numbers = refl; part = refl; draws = refl; drawn = refl; box = refl; turn = refl; entries = refl; refused = omega arith }
 
   -- one call behind another turns it into what the second one leaves
-  pub turns_on : (x y z : TxOver S X K P R g) → TurnsInto x y → TurnsInto y z → TurnsInto x z
+  pub turns_on : (x y z : TxOver S X K P L g) → TurnsInto x y → TurnsInto y z → TurnsInto x z
   turns_on x y z a b = record {
     same_pass = b.same_pass ∙ a.same_pass;
     pass = b.pass ∙ a.pass;

@@ -9,29 +9,12 @@ ghost use Rattle.stm_transactions.specs.contracts.pass.Pass.{the_row};
 
 use crate::box_full::BoxFull;
 use crate::pass::Pass;
-use crate::reads::Reads;
 use crate::rule::{TransactionRule, let_transact};
 use crate::tx::{Tx, TxOver};
 use core_table::stm::Stm;
-use dude_base::write_list::WriteList;
-use std::alloc::Global;
-
-// How many reads have room from the begin on, where there is memory: more than a request makes.
-const FIRST_READS: usize = 64;
-
-// No reads, with room for the first ones. Where memory is wanting there is none, and a read tells it.
-fn first_room(alloc: Global) -> Vec<(u64, u64)>
-    ensures { result.items ≡ [] }
-{
-    match Vec::with_capacity(alloc, FIRST_READS) {
-        Ok(items) => items,
-        Err(_) => Vec::new(alloc),
-    }
-}
 
 // Begins a transaction of the pass, whose next box was seen empty.
 fn begin_now<'a, S, X, K, P: TransactionRule<S, X, K>>(
-    alloc: Global,
     p: &'a mut Pass<X>,
     stm: &'a Stm<S, X, K, P>,
 ) -> Tx<'a, S, X, K, P>
@@ -40,27 +23,24 @@ fn begin_now<'a, S, X, K, P: TransactionRule<S, X, K>>(
     ensures stm { result.stm.now ≡ stm.now }
     ensures view { Begins stm.now.events p.old result.snapshot result.seat.me.0.view }
     ensures numbers { (result.numbers ≡ p.old.numbers) × (result.refused ≡ 0) }
-    ensures none { (result.lists.items.items ≡ []) × (result.writes ≡ []) }
+    ensures none { (result.lists.value.reads.items ≡ []) × (result.lists.value.writes ≡ []) }
     ensures no_stop { result.stopped ≡ None }
 {
     let_transact(stm);
     let numbers = p.numbers();
-    let mut seat = p.take_seat();
+    let (mut seat, mut lists) = p.take_seat();
     let snapshot = stm.clock(&mut seat);
+    lists.clear();
     TxOver {
         pass: p,
         stm,
         seat,
         numbers,
         snapshot,
-        pinned: None,
-        writes: WriteList::new(),
-        held: WriteList::new(),
-        stopped: None,
         refused: 0,
-        lists: Reads {
-            items: first_room(alloc),
-        },
+        pinned: None,
+        stopped: None,
+        lists,
     }
 }
 
@@ -68,7 +48,6 @@ fn begin_now<'a, S, X, K, P: TransactionRule<S, X, K>>(
 pub fn begin_in<'a, S, X, K, P: TransactionRule<S, X, K>>(
     p: &'a mut Pass<X>,
     stm: &'a Stm<S, X, K, P>,
-    alloc: Global,
 ) -> Result<Tx<'a, S, X, K, P>, BoxFull>
     requires rests { IsResting stm.now.events p.old }
     ensures* refused { sem 𝓛 (RestsIfErr (the_row X.row) p.entry (λ t. t.pass.ghost_name) result
@@ -79,5 +58,5 @@ pub fn begin_in<'a, S, X, K, P: TransactionRule<S, X, K>>(
 {
     let_transact(stm);
     p.see_box(stm)?;
-    Ok(begin_now(alloc, p, stm))
+    Ok(begin_now(p, stm))
 }

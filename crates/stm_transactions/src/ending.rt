@@ -73,14 +73,15 @@ fn lost_of(stop: Stop) -> Lost
 }
 
 /// Ends a transaction with its entry: at the snapshot where it wrote nothing, else with a number that
-/// is drawn for its writes. Where it answers what lost it, its locks have their old words, and no entry
-/// is made.
+/// is drawn for its writes, whose pages are put into `frames`. Where it answers what lost it, its locks have their
+/// old words, and no entry is made.
 pub fn commit_all<S, X, K, P: BoxRule<S, X, K>>(
     stm: &Stm<S, X, K, P>,
     seat: &mut Seat<S, X>,
     commit: &Commit,
     pinned: &Option<Pinned>,
     served: &Served,
+    frames: &mut WriteList,
 ) -> Result<u64, Lost>
     requires seat { BelongsTo stm.now.events seat.old }
     requires slots { OutlastsEnding P.fact stm.now.events }
@@ -97,10 +98,10 @@ pub fn commit_all<S, X, K, P: BoxRule<S, X, K>>(
         stm.finish(seat, served);
         return Ok(commit.snapshot);
     }
-    let mut frames = WriteList::new();
-    if let Err(stop) = pin_all(stm, seat, commit.writes, &mut frames) {
-        undo(stm, seat, commit.held, &frames);
+    frames.clear();
+    if let Err(stop) = pin_all(stm, seat, commit.writes, frames) {
+        undo(stm, seat, commit.held, frames);
         return Err(lost_of(stop));
     }
-    publish(stm, seat, commit, served, &frames)
+    publish(stm, seat, commit, served, frames)
 }

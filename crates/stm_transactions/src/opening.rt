@@ -4,6 +4,7 @@ ghost use Rattle.std.specs.Prelude.{◌≡◌};
 ghost use Rattle.stm_transactions.specs.Opening.{IsFirstPass, IsFirstSeat};
 ghost use Rattle.stm_transactions.specs.Passes.{OutlastsPasses};
 
+use crate::kept::Kept;
 use crate::pass::Pass;
 use crate::pass_numbers::PassNumbers;
 use core_table::event_table::Seat;
@@ -15,6 +16,7 @@ impl<X> Pass<X> {
     pub fn first<S, K, P: SlotRule<S, X, K>>(
         stm: &Stm<S, X, K, P>,
         mut seat: Seat<S, X>,
+        kept: Box<Kept>,
         opening: u64,
     ) -> Pass<X>
         requires seat { IsFirstSeat stm.now.events seat }
@@ -25,6 +27,7 @@ impl<X> Pass<X> {
         let thread = stm.number(&mut seat);
         Pass::of_seat(
             seat,
+            kept,
             PassNumbers::first(thread, stm.events.threads(), opening),
         )
     }

@@ -4,17 +4,20 @@ ghost use Rattle.std.specs.Prelude.{◌≡◌, ◌≤◌, IfOk, OnErr};
 ghost use Rattle.stm_transactions.specs.Partings.{AnswersAll, IsJoined, IsSplitOff};
 ghost use Rattle.stm_transactions.specs.Passes.{IsResting, OutlastsPasses};
 
+use crate::kept::Kept;
 use crate::pass::Pass;
 use crate::pass_numbers::PassNumbers;
 use crate::split_fault::SplitFault;
 use core_table::slot_rule::SlotRule;
 use core_table::stm::Stm;
+use std::alloc::Global;
 
 impl<X> Pass<X> {
     /// A new pass with so many of this pass's draws and with no splits; this pass has one split less.
     pub fn split<S, K, P: SlotRule<S, X, K>>(
         &mut self,
         stm: &Stm<S, X, K, P>,
+        alloc: Global,
         draws: u64,
     ) -> Result<Pass<X>, SplitFault>
         requires rests { IsResting stm.now.events self.old }
@@ -30,12 +33,15 @@ impl<X> Pass<X> {
                 threads: stm.events.threads(),
             });
         }
-        let mut seat = self.take_seat();
+        let Ok(blank) = Kept::new(alloc) else {
+            return Err(SplitFault::NoMemory);
+        };
+        let (mut seat, kept) = self.take_seat();
         let mut other = stm.split(&mut seat, draws);
         let thread = stm.number(&mut other);
-        self.put_seat(seat, numbers.part(draws));
+        self.put_seat(seat, kept, numbers.part(draws));
         let newcomer = PassNumbers::newcomer(thread, draws, numbers.opening);
-        Ok(Pass::of_seat(other, newcomer))
+        Ok(Pass::of_seat(other, blank, newcomer))
     }
 
     /// Takes in another pass, with its entries, its draws and splits, its threads, and what its turns met.
@@ -46,8 +52,9 @@ impl<X> Pass<X> {
         ensures joined { IsJoined stm.now.events self.old other self.new }
     {
         let numbers = self.numbers().join(&other.numbers());
-        let mut seat = self.take_seat();
-        stm.join(&mut seat, other.take_seat());
-        self.put_seat(seat, numbers);
+        let (mut seat, kept) = self.take_seat();
+        let (others, _blank) = other.take_seat();
+        stm.join(&mut seat, others);
+        self.put_seat(seat, kept, numbers);
     }
 }

@@ -1,5 +1,6 @@
 //! A seat with a thread's number.
 
+use crate::kept::Kept;
 use crate::pass_numbers::PassNumbers;
 use atomic_table::Badge;
 use core_table::event_table::Seat;
@@ -7,11 +8,13 @@ use core_table::known::Known;
 use std::marker::Model;
 use std::mem;
 
-/// A seat with a thread's number. While a transaction is open the seat is out, and nothing is known.
+/// A seat with a thread's number, and the lists of its transactions. While a transaction is open both are out, and nothing is
+/// known.
 #[derive(Drop)]
 pub struct Pass<X> {
     badge: Badge<Known<X>>,
     numbers: PassNumbers,
+    kept: Option<Box<Kept>>,
 }
 
 impl<X> Model for Pass<X> {
@@ -19,39 +22,51 @@ impl<X> Model for Pass<X> {
 
     ghost Value = { PassSight X };
 
+    ghost use Rattle.stm_transactions.specs.Kept.{AreWithSeat};
+
     ghost view = { λ p. record { table = p.badge.table_id; known = p.badge.views; numbers = p.numbers } };
+
+    ghost invariant = { λ p. AreWithSeat p.badge.views p.kept };
 }
 
 impl<X> Pass<X> {
     ghost use Rattle.std.specs.Prelude.{◌≡◌, [], ◌∷◌};
     ghost use Rattle.stm_transactions.specs.Passes.{GivesSeat, HasSeat, is_given};
 
-    /// A pass of this seat, with these numbers.
-    pub fn of_seat<S>(seat: Seat<S, X>, numbers: PassNumbers) -> Pass<X>
+    /// A pass of this seat, with these lists and numbers.
+    pub fn of_seat<S>(seat: Seat<S, X>, kept: Box<Kept>, numbers: PassNumbers) -> Pass<X>
         requires slots { seat.me.1 ≡ [] }
         ensures { result ≡ is_given seat numbers }
     {
         Pass {
             badge: seat.into_badge(),
             numbers,
+            kept: Some(kept),
         }
     }
 
-    /// Takes the seat out.
-    pub fn take_seat<S>(&mut self) -> Seat<S, X>
+    /// Takes the seat out, with the lists.
+    pub fn take_seat<S>(&mut self) -> (Seat<S, X>, Box<Kept>)
         requires seat { HasSeat self.old }
-        ensures { GivesSeat self.old self.new result }
+        ensures { GivesSeat self.old self.new result.0 }
     {
-        mem::replace(&mut self.badge, Badge::blank()).into_seat()
+        let Some(kept) = self.kept.take() else {
+            unreachable!()
+        };
+        (
+            mem::replace(&mut self.badge, Badge::blank()).into_seat(),
+            kept,
+        )
     }
 
-    /// Puts a seat in, with these numbers.
-    pub fn put_seat<S>(&mut self, seat: Seat<S, X>, numbers: PassNumbers)
+    /// Puts a seat in, with these lists and numbers.
+    pub fn put_seat<S>(&mut self, seat: Seat<S, X>, kept: Box<Kept>, numbers: PassNumbers)
         requires slots { seat.me.1 ≡ [] }
         ensures { self.new ≡ is_given seat numbers }
     {
         self.badge = seat.into_badge();
         self.numbers = numbers;
+        self.kept = Some(kept);
     }
 
     /// All its numbers.

@@ -14,48 +14,53 @@ use crate::box_rule::BoxRule;
 use crate::commit::Commit;
 use crate::counting::{count_commit, done_of, has_any};
 use crate::ending::{commit_all, give_up};
+use crate::kept::Kept;
 use crate::lost::Lost;
 use crate::pass::Pass;
 use crate::pass_numbers::PassNumbers;
 use crate::pinned::Pinned;
-use crate::reads::{ReadList, Reads};
 use crate::rule::{TransactionRule, let_transact};
+use crate::transaction_lists::TransactionLists;
 use core_table::event_table::Seat;
 use core_table::served::Served;
 use core_table::stm::Stm;
-use dude_base::write_list::WriteList;
 use tatp_model::done::Done;
 use tatp_model::reply::Reply;
 use tatp_model::request::Request;
 use word_space::stop::Stop;
 
-/// A transaction, over its reads. It has the seat of its pass, and the pass's numbers as they were at its begin.
-pub struct TxOver<'a, S, X, K, P: TransactionRule<S, X, K>, R: ReadList> {
+/// A transaction, over its lists. It has the seat of its pass, and the pass's numbers as they were at its begin.
+pub struct TxOver<'a, S, X, K, P: TransactionRule<S, X, K>, L: TransactionLists> {
     pub(crate) pass: &'a mut Pass<X>,
     pub(crate) stm: &'a Stm<S, X, K, P>,
     pub(crate) seat: Seat<S, X>,
     pub(crate) numbers: PassNumbers,
     pub(crate) snapshot: u64,
-    pub(crate) pinned: Option<Pinned>,
-    pub(crate) writes: WriteList,
-    pub(crate) held: WriteList,
-    pub(crate) stopped: Option<Stop>,
     pub(crate) refused: u64,
-    pub(crate) lists: R,
+    pub(crate) pinned: Option<Pinned>,
+    pub(crate) stopped: Option<Stop>,
+    pub(crate) lists: L,
     ghost belongs: { BelongsTo stm.now.events seat } by { Prim.hlevel props },
     ghost slots: { length seat.me.1 ≡ 0 },
     ghost describes: { Describes stm.now.events.setup numbers seat.me.0.view } by { Prim.hlevel props },
-    ghost running: { IsRunning stm.now.events.setup numbers.thread snapshot (R.reads lists) writes
-        (pairs_of held) (pin_list pinned) seat.me.0.view } by { Prim.hlevel props },
+    ghost running: { IsRunning stm.now.events.setup numbers.thread snapshot (L.reads lists)
+        (L.writes lists) (pairs_of (L.held lists)) (pin_list pinned) seat.me.0.view } by { Prim.hlevel props },
     ghost reads_inside: { All (λ r. r.0 < stm.now.events.setup.pages * PAGE_WORDS)
-        (R.reads lists) } by { Prim.hlevel props },
+        (L.reads lists) } by { Prim.hlevel props },
     ghost stops: { CountsStop stm.now.events.setup stopped refused },
 }
 
 /// A transaction.
-pub type Tx<'a, S, X, K, P> = TxOver<'a, S, X, K, P, Reads>;
+pub type Tx<'a, S, X, K, P> = TxOver<'a, S, X, K, P, Box<Kept>>;
 
-impl<'a, S, X, K, P: TransactionRule<S, X, K> + BoxRule<S, X, K>> TxOver<'a, S, X, K, P, Reads> {
+impl<'a, S, X, K, P: TransactionRule<S, X, K> + BoxRule<S, X, K>> TxOver<
+    'a,
+    S,
+    X,
+    K,
+    P,
+    Box<Kept>,
+> {
     ghost use Rattle.std.specs.Prelude.{IfOk, IfErr};
     ghost use Rattle.stm_transactions.specs.Ends.{HasCommitted, HasLostCommit, HasDrawLeft};
 
@@ -72,22 +77,20 @@ impl<'a, S, X, K, P: TransactionRule<S, X, K> + BoxRule<S, X, K>> TxOver<'a, S, 
             mut seat,
             numbers,
             snapshot,
-            pinned,
-            writes,
-            held,
-            stopped: _,
             refused,
-            lists,
+            pinned,
+            stopped: _,
+            mut lists,
         } = self;
         let_transact(stm);
-        let Reads { items } = lists;
+        let own = &mut *lists;
         let commit = Commit {
             thread: numbers.thread,
             place: numbers.next,
             snapshot,
-            reads: items.as_slice(),
-            writes: &writes,
-            held: &held,
+            reads: own.reads.as_slice(),
+            writes: &own.writes,
+            held: &own.held,
         };
         let served = Served {
             file,
@@ -95,16 +98,16 @@ impl<'a, S, X, K, P: TransactionRule<S, X, K> + BoxRule<S, X, K>> TxOver<'a, S, 
             request: q,
             reply,
         };
-        let answer = commit_all(stm, &mut seat, &commit, &pinned, &served);
-        let wrote = has_any(&writes);
+        let answer = commit_all(stm, &mut seat, &commit, &pinned, &served, &mut own.frames);
+        let wrote = has_any(&own.writes);
         let done = done_of(&served, wrote, &answer);
         let numbers = count_commit(numbers, wrote, &answer, stm.events.boxes()).refuse(refused);
-        pass.put_seat(seat, numbers);
+        pass.put_seat(seat, lists, numbers);
         done
     }
 }
 
-impl<'a, S, X, K, P: TransactionRule<S, X, K>, R: ReadList> TxOver<'a, S, X, K, P, R> {
+impl<'a, S, X, K, P: TransactionRule<S, X, K>, L: TransactionLists> TxOver<'a, S, X, K, P, L> {
     ghost use Rattle.stm_transactions.specs.Ends.{HasAborted};
     ghost use Rattle.stm_transactions.specs.Transactions.{HasCountedStop, tx_sight};
 
@@ -133,20 +136,18 @@ impl<'a, S, X, K, P: TransactionRule<S, X, K>, R: ReadList> TxOver<'a, S, X, K, 
             mut seat,
             numbers,
             snapshot: _,
-            pinned,
-            writes: _,
-            held,
-            stopped: _,
             refused,
-            lists: _,
+            pinned,
+            stopped: _,
+            lists,
         } = self;
         let_transact(stm);
-        give_up(stm, &mut seat, &pinned, &held);
-        pass.put_seat(seat, numbers.refuse(refused));
+        give_up(stm, &mut seat, &pinned, lists.held());
+        pass.put_seat(seat, lists.into_kept(), numbers.refuse(refused));
     }
 }
 
-impl<S, X, K, P: TransactionRule<S, X, K>, R: ReadList> Drop for TxOver<'_, S, X, K, P, R> {
+impl<S, X, K, P: TransactionRule<S, X, K>, L: TransactionLists> Drop for TxOver<'_, S, X, K, P, L> {
     ghost use Rattle.stm_transactions.specs.Ends.{HasAborted};
 
     fn drop(self)

@@ -5,10 +5,10 @@ ghost use Rattle.pmem_trait.specs.Faults.{up_to_last};
 ghost use Rattle.std.specs.Prelude.{◌≡◌, ◌<◌, ◌≤◌, ◌+◌, IsTrue, MatchBool, vec_len, vec_capacity};
 
 use crate::bad_lock::BadLock;
+use crate::kept::Kept;
 use crate::lock_for::lock_for;
 use crate::owning::own_lock;
 use crate::reading::read_word;
-use crate::reads::Reads;
 use crate::rule::{TransactionRule, let_transact};
 use crate::tx::TxOver;
 use dude_base::limits::{MAX_WRITES, PAGE};
@@ -52,7 +52,7 @@ fn one_more(refused: u64) -> u64
     refused.saturating_add(1)
 }
 
-impl<'a, S, X, K, P: TransactionRule<S, X, K>> Words for TxOver<'a, S, X, K, P, Reads> {
+impl<'a, S, X, K, P: TransactionRule<S, X, K>> Words for TxOver<'a, S, X, K, P, Box<Kept>> {
     ghost use Rattle.std.specs.Prelude.{◌≡◌, ◌<◌, IfErr};
     ghost use Rattle.stm_transactions.specs.Transactions.{CountsRefusal, KeepsPages, StopsReading, StopsWriting, TurnsInto, turns_begin, turns_on, tx_sight, tx_well_formed};
     ghost use Rattle.word_space.specs.Steps.{AnswersSeen, IsSeenAt, MakesRead, MakesWrite, Shows, UsesWords, with_word};
@@ -80,10 +80,11 @@ impl<'a, S, X, K, P: TransactionRule<S, X, K>> Words for TxOver<'a, S, X, K, P, 
         ensures why { IfErr result (StopsReading at self.old self.new) }
         ensures refused { CountsRefusal result self.old self.new }
     {
-        if let Some(value) = self.writes.find(at) {
+        let own = &mut *self.lists;
+        if let Some(value) = own.writes.find(at) {
             return Ok(value);
         }
-        if !make_room(&mut self.lists.items) {
+        if !make_room(&mut own.reads) {
             self.stopped = Some(Stop::NoMemory);
             return Err(Stop::NoMemory);
         }
@@ -94,11 +95,11 @@ impl<'a, S, X, K, P: TransactionRule<S, X, K>> Words for TxOver<'a, S, X, K, P, 
             self.numbers.thread,
             &mut self.snapshot,
             at,
-            self.lists.items.as_slice(),
+            own.reads.as_slice(),
             &mut self.pinned,
         ) {
             Ok(value) => {
-                self.lists.items.push_reserved((at, value));
+                own.reads.push_reserved((at, value));
                 Ok(value)
             }
             Err(stop) => {
@@ -119,7 +120,8 @@ impl<'a, S, X, K, P: TransactionRule<S, X, K>> Words for TxOver<'a, S, X, K, P, 
         ensures why { IfErr result (StopsWriting at self.old self.new) }
         ensures refused { CountsRefusal result self.old self.new }
     {
-        if is_wide(&self.writes, at) {
+        let own = &mut *self.lists;
+        if is_wide(&own.writes, at) {
             self.stopped = Some(Stop::Wide);
             return Err(Stop::Wide);
         }
@@ -128,18 +130,18 @@ impl<'a, S, X, K, P: TransactionRule<S, X, K>> Words for TxOver<'a, S, X, K, P, 
         if let Err(BadLock { lock, seen }) = own_lock(
             self.stm,
             &mut self.seat,
-            &mut self.held,
+            &mut own.held,
             lock,
             self.numbers.thread,
             &mut self.snapshot,
-            self.lists.items.as_slice(),
+            own.reads.as_slice(),
         ) {
             let stop = Stop::Conflict { lock, seen };
             self.stopped = Some(stop);
             self.refused = one_more(self.refused);
             return Err(stop);
         }
-        note(&mut self.writes, at, value);
+        note(&mut own.writes, at, value);
         Ok(())
     }
 }

@@ -2,7 +2,6 @@
 
 use crate::stm::{Pass, Stm, Tx};
 use pmem_trait::Medium;
-use std::alloc::Global;
 use stm_slots::beside::Beside;
 use stm_transactions::begin::begin_in;
 use stm_transactions::box_full::BoxFull;
@@ -18,13 +17,13 @@ impl<M: Medium> Stm<M> {
 
     /// Begins a transaction of the pass, where its next box is empty. A clause says what a pass ends as that a result may hold
     /// only where it comes first, so the pass comes before the transactions' `Stm`.
-    pub fn begin<'a>(p: &'a mut Pass, stm: &'a Stm<M>, alloc: Global) -> Result<Tx<'a, M>, BoxFull>
+    pub fn begin<'a>(p: &'a mut Pass, stm: &'a Stm<M>) -> Result<Tx<'a, M>, BoxFull>
         requires { IsResting (table_of stm.now) p.old }
         ensures* refused { sem 𝓛 (RestsIfErr (pass_row beside_row) p.entry (λ t. t.pass.ghost_name)
             result (λ n. IfErr result (λ e. IsRefused (table_of stm.now) e.seen p.old n))) }
         ensures same { IfOk result (λ t. t.pass.ghost_name ≡ p.entry.ghost_name) }
         ensures begun { IfOk result (HasBegun (table_of stm.now) p.old) }
     {
-        begin_in(p, &stm.steps, alloc)
+        begin_in(p, &stm.steps)
     }
 }

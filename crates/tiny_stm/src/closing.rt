@@ -48,7 +48,8 @@ impl<M: Medium> Stm<M> {
         // Behind the locks stand the page entries and touches, then the words of frames.
         let entries = events.lock_place(0) + events.locks() as usize;
         let cells = entries + 2 * events.pages() as usize;
-        let mut table = close_events(events, p.take_seat());
+        let (seat, _kept) = p.take_seat();
+        let mut table = close_events(events, seat);
         collect(&mut table, &mut rest, threads, boxes);
         let home = home_in(table.take((threads * boxes) as usize));
         let mut words = words_of(opening);

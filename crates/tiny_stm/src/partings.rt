@@ -2,6 +2,7 @@
 
 use crate::stm::{Pass, Stm};
 use pmem_trait::Medium;
+use std::alloc::Global;
 use stm_transactions::rule::let_transact;
 use stm_transactions::split_fault::SplitFault;
 
@@ -12,7 +13,7 @@ impl<M: Medium> Stm<M> {
     ghost use Rattle.tiny_stm.specs.Tables.{table_of};
 
     /// A new pass with so many of this pass's draws and with no splits; this pass has one split less.
-    pub fn split(&self, p: &mut Pass, draws: u64) -> Result<Pass, SplitFault>
+    pub fn split(&self, p: &mut Pass, alloc: Global, draws: u64) -> Result<Pass, SplitFault>
         requires rests { IsResting (table_of self.now) p.old }
         requires draws { draws ≤ p.old.numbers.left }
         ensures ok { IfOk result (IsSplitOff (table_of self.now) draws p.old p.new) }
@@ -20,7 +21,7 @@ impl<M: Medium> Stm<M> {
         ensures err { OnErr result (p.new ≡ p.old) }
     {
         let_transact(&self.steps);
-        p.split(&self.steps, draws)
+        p.split(&self.steps, alloc, draws)
     }
 
     /// Takes another pass into this one, with its entries, its draws and splits, its threads, and

@@ -1,7 +1,6 @@
 //! What one thread has to do, and what it did.
 
 use crate::counts::Counts;
-use std::alloc::Global;
 use stm_transactions::pass::Pass;
 use tatp_model::done::Done;
 use tatp_model::request::Request;
@@ -9,7 +8,6 @@ use tatp_model::request::Request;
 /// What one thread has to do, and what it did.
 #[derive(Drop)]
 pub struct Job {
-    pub alloc: Global,
     pub file: u64,
     pub pass: Pass<()>,
     pub requests: Vec<Request>,

@@ -16,6 +16,7 @@ use core_table::terms::Terms;
 use dude_base::limits::{MAX_BOXES, MAX_LOCKS};
 use dude_base::sizes::Sizes;
 use std::alloc::Global;
+use stm_transactions::kept::Kept;
 use stm_transactions::pass::Pass;
 use stm_transactions::rule::let_transact;
 use tatp_layout::Layout;
@@ -80,7 +81,8 @@ fn share(alloc: Global, terms: &Terms) -> Option<(Small, Pass<()>)>
 {
     let (stm, seat) = Stm::new(alloc, terms, terms, Vec::new(alloc)).ok()?;
     let_transact(&stm);
-    let pass = Pass::first(&stm, seat, 0);
+    let kept = Kept::new(alloc).ok()?;
+    let pass = Pass::first(&stm, seat, kept, 0);
     Some((stm, pass))
 }
 
@@ -101,7 +103,7 @@ pub fn split_jobs(
         if first.left() < DRAWS {
             return None;
         }
-        let Ok(pass) = first.split(&place.stm, DRAWS) else {
+        let Ok(pass) = first.split(&place.stm, alloc, DRAWS) else {
             return None;
         };
         let job = job_of(alloc, place, file, pass, settings)?;
@@ -131,7 +133,6 @@ fn job_of(
     let mut done = Vec::new(alloc);
     done.reserve(requests.len()).ok()?;
     Some(Job {
-        alloc,
         file,
         pass,
         requests,

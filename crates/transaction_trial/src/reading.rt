@@ -21,7 +21,7 @@ pub fn read_tables<R: Threads>(
 ) -> Option<(Vec<u64>, Vec<u64>)> {
     let (place, mut first) = open_place(alloc, subscribers, 2, DEFAULT_LOCKS)?;
     let_transact(&place.stm);
-    let Ok(second) = first.split(&place.stm, 0) else {
+    let Ok(second) = first.split(&place.stm, alloc, 0) else {
         return None;
     };
     let (one, other) = join(
@@ -36,7 +36,7 @@ pub fn read_tables<R: Threads>(
 fn read_by(alloc: Global, place: &Place, mut p: Pass<()>) -> Option<Vec<u64>>
     requires { IsResting place.now.stm.events p }
 {
-    let Ok(mut tx) = begin_in(&mut p, &place.stm, alloc) else {
+    let Ok(mut tx) = begin_in(&mut p, &place.stm) else {
         return None;
     };
     read_all(alloc, &mut tx)

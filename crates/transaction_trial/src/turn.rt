@@ -17,12 +17,12 @@ pub fn drop_records(stm: &Small, p: &mut Pass<()>)
     ensures { IsResting stm.now.events p.new }
 {
     let numbers = p.numbers();
-    let mut seat = p.take_seat();
+    let (mut seat, kept) = p.take_seat();
     if stm.take_turn(&mut seat, numbers.thread) == 0 {
         empty_boxes(stm, &mut seat, &numbers);
         stm.give_turn(&mut seat, false);
     }
-    p.put_seat(seat, numbers);
+    p.put_seat(seat, kept, numbers);
 }
 
 // Empties the full boxes of the thread.

@@ -13,7 +13,6 @@ use crate::job::Job;
 use crate::place::Place;
 use crate::turn::drop_records;
 use request_attempts::once::Once;
-use std::alloc::Global;
 use stm_transactions::begin::begin_in;
 use stm_transactions::box_full::BoxFull;
 use stm_transactions::lost::Lost;
@@ -38,7 +37,7 @@ pub fn work(place: &Place, job: &mut Job)
             index: index as u64,
             request: &request,
         };
-        let Some(done) = serve(place, &mut job.pass, job.alloc, &asked, &mut job.counts) else {
+        let Some(done) = serve(place, &mut job.pass, &asked, &mut job.counts) else {
             return;
         };
         if job.done.push(done).is_err() {
@@ -71,13 +70,7 @@ struct Asked<'a> {
 }
 
 // Tries a request until it is done. There is nothing where memory or a draw is wanting.
-fn serve(
-    place: &Place,
-    p: &mut Pass<()>,
-    alloc: Global,
-    asked: &Asked,
-    counts: &mut Counts,
-) -> Option<Done>
+fn serve(place: &Place, p: &mut Pass<()>, asked: &Asked, counts: &mut Counts) -> Option<Done>
     requires ready { IsReady place.now }
     requires rests { IsResting place.now.stm.events p.old }
     requires in_range { IsInRange asked.now.request.now }
@@ -89,7 +82,7 @@ fn serve(
         if p.left() == 0 {
             return None;
         }
-        match run_counted(place, p, alloc, asked, counts) {
+        match run_counted(place, p, asked, counts) {
             Once::Done(done) => return Some(done),
             Once::Stopped(Stop::NoMemory) => return None,
             Once::Full(_) => {
@@ -104,19 +97,13 @@ fn serve(
 }
 
 // Runs a request in one transaction, and counts it where its snapshot was extended.
-fn run_counted(
-    place: &Place,
-    p: &mut Pass<()>,
-    alloc: Global,
-    asked: &Asked,
-    counts: &mut Counts,
-) -> Once
+fn run_counted(place: &Place, p: &mut Pass<()>, asked: &Asked, counts: &mut Counts) -> Once
     requires may { MayTry place.now.stm.events place.now.lay asked.now.request.now p.old }
     requires no_sync { is_sync asked.now.request.now ≡ false }
     ensures { AfterOnce place.now.stm.events place.now.lay asked.now.file asked.now.index
         asked.now.request.now result p.old p.new }
 {
-    match begin_in(p, &place.stm, alloc) {
+    match begin_in(p, &place.stm) {
         Err(BoxFull { seen }) => Once::Full(seen),
         Ok(mut tx) => {
             let snapshot = tx.snapshot();

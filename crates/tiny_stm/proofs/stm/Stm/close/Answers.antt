@@ -18,19 +18,19 @@ use Rattle.tiny_stm.proofs.stm.Stm.close.Goals as goal
 pub collect-requires-clause-some : goal.collect-requires-clause-some
 collect-requires-clause-some g c =
     let sight = g.M.Medium.sight in let t = c.args.self.steps.events in let o = t.key in let e = c.box_count-count.ensures.setup in
-    let k = c.close_events-table.ensures.closed in let v = c.take_seat.result.me.0.view in let table = c.close_events-table.result in
+    let k = c.close_events-table.ensures.closed in let v = c.take_seat-seat.result.0.me.0.view in let table = c.close_events-table.result in
     let s = some_slot sight o v (slots_items table.words) (slots_items table.slots) k c.threads-threads.result c.boxes-boxes.result (c.threads-threads.ensures ∙ ap (λ (z : Setup). z.threads) e) (c.boxes-boxes.ensures ∙ ap (λ (z : Setup). z.boxes) e) in
     let n = (slots_counts table.slots).0 in omega arith
 
 pub collect-requires-clause-once : goal.collect-requires-clause-once
 collect-requires-clause-once g c =
     let t = c.args.self.steps.events in let e = c.box_count-count.ensures.setup in let table = c.close_events-table.result in
-    once_each g.M.Medium.sight t.key c.take_seat.result.me.0.view (slots_items table.words) (slots_items table.slots) c.close_events-table.ensures.closed c.threads-threads.result c.boxes-boxes.result (c.threads-threads.ensures ∙ ap (λ (z : Setup). z.threads) e) (c.boxes-boxes.ensures ∙ ap (λ (z : Setup). z.boxes) e)
+    once_each g.M.Medium.sight t.key c.take_seat-seat.result.0.me.0.view (slots_items table.words) (slots_items table.slots) c.close_events-table.ensures.closed c.threads-threads.result c.boxes-boxes.result (c.threads-threads.ensures ∙ ap (λ (z : Setup). z.threads) e) (c.boxes-boxes.ensures ∙ ap (λ (z : Setup). z.boxes) e)
 
 pub take-requires : goal.take-requires
 take-requires g c =
     let t = c.args.self.steps.events in let e = c.box_count-count.ensures.setup in let table = c.close_events-table.result in
-    let lt = some_slot g.M.Medium.sight t.key c.take_seat.result.me.0.view (slots_items table.words) (slots_items table.slots) c.close_events-table.ensures.closed c.threads-threads.result c.boxes-boxes.result (c.threads-threads.ensures ∙ ap (λ (z : Setup). z.threads) e) (c.boxes-boxes.ensures ∙ ap (λ (z : Setup). z.boxes) e) in
+    let lt = some_slot g.M.Medium.sight t.key c.take_seat-seat.result.0.me.0.view (slots_items table.words) (slots_items table.slots) c.close_events-table.ensures.closed c.threads-threads.result c.boxes-boxes.result (c.threads-threads.ensures ∙ ap (λ (z : Setup). z.threads) e) (c.boxes-boxes.ensures ∙ ap (λ (z : Setup). z.boxes) e) in
     let s = c.collect.ensures.collected.slots in
     ((let n = (slots_counts c.collect.new.table.slots).0 in let same = ap length s.items in omega arith), s.left (c.threads-threads.result * c.boxes-boxes.result) (omega arith) lt)
 
@@ -38,7 +38,7 @@ pub home_in-home-requires : goal.home_in-home-requires
 home_in-home-requires g c =
     let t = c.args.self.steps.events in let e = c.box_count-count.ensures.setup in let table = c.close_events-table.result in let k = c.close_events-table.ensures.closed in
     let at : get_elem? (slots_items table.slots) (c.threads-threads.result * c.boxes-boxes.result) ≡ some c.take.result = ap (λ l. get_elem? l (c.threads-threads.result * c.boxes-boxes.result)) (sym c.collect.ensures.collected.slots.items) ∙ c.take.ensures.value in
-    (k.home, back_in g.M.Medium.sight t.key c.take_seat.result.me.0.view (slots_items table.words) (slots_items table.slots) k c.threads-threads.result c.boxes-boxes.result (c.threads-threads.ensures ∙ ap (λ (z : Setup). z.threads) e) (c.boxes-boxes.ensures ∙ ap (λ (z : Setup). z.boxes) e) c.take.result at)
+    (k.home, back_in g.M.Medium.sight t.key c.take_seat-seat.result.0.me.0.view (slots_items table.words) (slots_items table.slots) k c.threads-threads.result c.boxes-boxes.result (c.threads-threads.ensures ∙ ap (λ (z : Setup). z.threads) e) (c.boxes-boxes.ensures ∙ ap (λ (z : Setup). z.boxes) e) c.take.result at)
 
 pub copy_shown-requires-clause-full : goal.copy_shown-requires-clause-full
 copy_shown-requires-clause-full g c = subst IsFull (sym (c.take.ensures.others.3 ∙ c.collect.ensures.words)) c.close_events-table.ensures.full.0
@@ -48,7 +48,7 @@ copy_shown-requires-clause-places g c =
     let t = c.args.self.steps.events in let e = c.box_count-count.ensures.setup in let table = c.close_events-table.result in let o = t.key in
     let size : length o.terms.opening ≡ o.terms.pages * PAGE = subst (λ (z : Setup). length z.opening ≡ z.pages * PAGE) c.args.self.terms c.args.self.size in
     let long : length (slots_items table.words) ≡ count t.setup = sym (slots_counts table.words).0 ∙ c.close_events-table.ensures.counts.0 in
-    let places = has_places g.M.Medium.sight o c.take_seat.result.me.0.view (slots_items table.words) (slots_items table.slots) c.close_events-table.ensures.closed size (long ∙ ap count e) (c.lock_place.result + c.locks.result) (c.lock_place.result + c.locks.result + 2 * c.pages.result)
+    let places = has_places g.M.Medium.sight o c.take_seat-seat.result.0.me.0.view (slots_items table.words) (slots_items table.slots) c.close_events-table.ensures.closed size (long ∙ ap count e) (c.lock_place.result + c.locks.result) (c.lock_place.result + c.locks.result + 2 * c.pages.result)
     (let l = c.locks.ensures ∙ ap (λ (z : Setup). z.locks) e in let p = c.lock_place.ensures in omega arith) (let p = c.pages.ensures ∙ ap (λ (z : Setup). z.pages) e in omega arith) in
     let words_are : c.as_mut_slice.result.now ≡ o.terms.opening = c.as_mut_slice.ensures.value ∙ (c.words_of-words.ensures ∙ ap (λ (z : Setup). z.opening) c.args.self.terms) in
     subst (λ w. HasPlaces (slots_items w) (c.lock_place.result + c.locks.result) (c.lock_place.result + c.locks.result + 2 * c.pages.result) (length c.as_mut_slice.result.now)) (sym (c.take.ensures.others.3 ∙ c.collect.ensures.words))
@@ -64,14 +64,14 @@ free-requires g c =
     let t = c.args.self.steps.events in let e = c.box_count-count.ensures.setup in let table = c.close_events-table.result in
     let long = sym (slots_counts table.slots).0 ∙ c.close_events-table.ensures.last in
     let s = c.collect.ensures.collected.slots in
-    λ i lt. none_left g.M.Medium.sight t.key c.take_seat.result.me.0.view (slots_items table.words) (slots_items table.slots) c.close_events-table.ensures.closed c.threads-threads.result c.boxes-boxes.result (c.threads-threads.ensures ∙ ap (λ (z : Setup). z.threads) e) (c.boxes-boxes.ensures ∙ ap (λ (z : Setup). z.boxes) e)
+    λ i lt. none_left g.M.Medium.sight t.key c.take_seat-seat.result.0.me.0.view (slots_items table.words) (slots_items table.slots) c.close_events-table.ensures.closed c.threads-threads.result c.boxes-boxes.result (c.threads-threads.ensures ∙ ap (λ (z : Setup). z.threads) e) (c.boxes-boxes.ensures ∙ ap (λ (z : Setup). z.boxes) e)
     (slots_items c.collect.new.table.slots) (slots_filled c.collect.new.table.slots) c.collect.new.rest.items c.collect.ensures.collected long (slots_filled c.take.new.self.slots) c.take.ensures.others.1 i
     (let a = c.take.ensures.others.2 in let b = (slots_counts c.collect.new.table.slots).0 in let same = ap length s.items in omega arith)
 
 pub returns : goal.returns
 returns g c =
     let sight = g.M.Medium.sight in let t = c.args.self.steps.events in let e = c.box_count-count.ensures.setup in let table = c.close_events-table.result in let o = t.key in let k = c.close_events-table.ensures.closed in
-    let v : View = c.take_seat.result.me.0.view in let ws = slots_items table.words in let ss = slots_items table.slots in
+    let v : View = c.take_seat-seat.result.0.me.0.view in let ws = slots_items table.words in let ss = slots_items table.slots in
     let et = c.threads-threads.ensures ∙ ap (λ (z : Setup). z.threads) e in let eb = c.boxes-boxes.ensures ∙ ap (λ (z : Setup). z.boxes) e in
     let at : get_elem? ss (c.threads-threads.result * c.boxes-boxes.result) ≡ some c.take.result = ap (λ l. get_elem? l (c.threads-threads.result * c.boxes-boxes.result)) (sym c.collect.ensures.collected.slots.items) ∙ c.take.ensures.value in
     let home : c.home_in-home.result ≡ k.home = home_is_in c.take.result c.home_in-home.result k.home c.home_in-home.ensures (back_in sight o v ws ss k c.threads-threads.result c.boxes-boxes.result et eb c.take.result at) in
@@ -91,4 +91,4 @@ returns g c =
     let ended : Closed g.row.M.Denot g.M.Medium = record { back = c.home_in-home.result.back; rest = c.sort.new.rest; words = with_items c.words_of-words.result c.copy_shown.new.words; number = c.word-number.result } in
     let long_words : length c.copy_shown.new.words ≡ c.words_of-words.result.len = c.copy_shown.ensures.size ∙ (ap (λ (l : List ℕ). length l) c.as_mut_slice.ensures.value ∙ sym c.words_of-words.result.ok.0) in
     let ended_words = subst (AreLastWords sight o v.entries k.core.clock) (sym (with_items_is c.words_of-words.result c.copy_shown.new.words long_words)) words in
-    has_closed sight o v ws ss k (pass_view c.args.p) (ap first_view c.take_seat.ensures.known) ended (ap (λ h. h.back) home) number rest live ended_words
+    has_closed sight o v ws ss k (pass_view c.args.p) (ap first_view c.take_seat-seat.ensures.known) ended (ap (λ h. h.back) home) number rest live ended_words
