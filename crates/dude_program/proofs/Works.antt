@@ -1,11 +1,11 @@
 -- A run over an opened image, as the command sees it; the requests of a load; and texts.
-use Rattle.std.proofs.Common.{◌≡◌, ◌⊎◌, ◌↔◌, Bool, true, false, IsTrue, ℕ, zero, suc, ◌+◌, ◌<◌, ◌≤◌, List, [], ◌∷◌, ◌++◌, length, map, refl, sym, ◌∙◌, ap, subst, inl, inr, arith, Some, None, Result, Ok, Err, Vec, Global, take, get_or}
+use Rattle.std.proofs.Common.{◌≡◌, ◌⊎◌, ◌↔◌, Bool, true, false, IsTrue, ℕ, zero, suc, ◌+◌, ◌<◌, ◌≤◌, List, [], ◌∷◌, length, map, refl, sym, ◌∙◌, ap, subst, inl, inr, arith, Some, None, Result, Ok, Err, Vec, Global, take, get_or}
 use Rattle.std.specs.Option.{is_none}
 use Rattle.std.specs.Result.{result_err}
 use Rattle.std.specs.Prelude.{OnOk, IfErr, ⊤}
 use Rattle.std.specs.List.{All, range_with_len}
-use Rattle.std.proofs.lemmas.List.{length-map, map_more, map-append}
-use Rattle.std.proofs.lemmas.List.Elements.{All-append, All-cons, All-head, All-nil, All-tail}
+use Rattle.std.proofs.lemmas.List.{length-map, map_more}
+use Rattle.std.proofs.lemmas.List.Elements.{All-head, All-tail}
 use Rattle.std.proofs.lemmas.List.FromFn.{length-map-range_with_len}
 use Rattle.std.proofs.lemmas.List.Sums.{fold-append}
 use Rattle.dude_base.specs.declared.run.Run.{Run}
@@ -210,25 +210,6 @@ one_count (list ∷ []) one few = let head : length list ≤ 100000 = All-head (
 one_count (list ∷ other ∷ more) one few = absurd (omega (arith, one))
 
 -- ---- the files of a load
-
-pub range_more : (a n : ℕ) → range_with_len a (n + 1) ≡ range_with_len a n ++ (a + n) ∷ []
-range_more a zero = ap (λ (x : ℕ). x ∷ []) (let e : a ≡ a + 0 = omega arith in e)
-range_more a (suc n) =
-    let one : suc n + 1 ≡ suc (n + 1) = omega arith in
-    let e : (a + 1) + n ≡ a + suc n = omega arith in
-    ap (range_with_len a) one ∙ ap (λ (l : List ℕ). a ∷ l) (range_more (a + 1) n ∙ ap (λ (x : ℕ). range_with_len (a + 1) n ++ x ∷ []) e)
-
-pub mixed_more : (f : ℕ → List Request) (old new : List (Vec Request Global)) (v : Vec Request Global) (n : ℕ) → new ≡ old ++ v ∷ [] → requests_in old ≡ map f (range_with_len 0 n) → v.items ≡ f n
-    → requests_in new ≡ map f (range_with_len 0 (n + 1))
-mixed_more f old new v n pushed is this =
-    let zero_up : 0 + n ≡ n = omega arith in
-    ap requests_in pushed ∙ (map-append (λ list. list.items) old (v ∷ []) ∙ (ap (λ (l : List (List Request)). l ++ v.items ∷ []) is
-    ∙ (ap (λ (x : List Request). map f (range_with_len 0 n) ++ x ∷ []) this
-    ∙ sym (ap (map f) (range_more 0 n) ∙ (ap (λ (x : ℕ). map f (range_with_len 0 n ++ x ∷ [])) zero_up ∙ map-append f (range_with_len 0 n) (n ∷ []))))))
-
-pub all_more : (P : List Request → Type 0) (old new : List (Vec Request Global)) (v : Vec Request Global) → new ≡ old ++ v ∷ [] → All P (requests_in old) → P v.items → All P (requests_in new)
-all_more P old new v pushed all this =
-    subst (All P) (sym (ap requests_in pushed ∙ map-append (λ list. list.items) old (v ∷ []))) (All-append P (requests_in old) (v.items ∷ []) all (All-cons P v.items [] this (All-nil P)))
 
 pub mixed_length : (f : ℕ → List Request) (lists : List (Vec Request Global)) (n : ℕ) → requests_in lists ≡ map f (range_with_len 0 n) → length lists ≡ n
 mixed_length f lists n is = sym (length-map lists (λ list. list.items)) ∙ (ap length is ∙ length-map-range_with_len f 0 n)

@@ -148,7 +148,7 @@ pub fn drive<R: Threads + Sync, M: Medium + Send, K: Sink, G: Gate + Sync>(
         Ok(opened) => opened,
         Err((fault, medium)) => return Ended::refused(alloc, fault, medium),
     };
-    match make_load(alloc, &opened, &load) {
+    match make_load(rt, alloc, &opened, &load) {
         Ok(lists) => {
             let options = RunOptions {
                 frames: None,

@@ -3,14 +3,17 @@
 ghost use Rattle.dude_engine.specs.Requests.{AreInRange};
 ghost use Rattle.dude_program.specs.Work.{AreOfLoad, EachIsFew, IsLoadFor, RefusesLoadFor};
 ghost use Rattle.dude_recover.specs.Opened.{IsOpened};
-ghost use Rattle.std.specs.Prelude.{◌≡◌, ◌≤◌, length, IfOk, IfErr};
+ghost use Rattle.std.specs.Prelude.{◌≡◌, ◌<◌, ◌≤◌, ◌↔◌, length, All, IfOk, IfErr, IsTrue};
 ghost use Rattle.tatp_model.specs.Files.{requests_in};
+ghost use Rattle.tatp_model.specs.Request.{IsInRange};
+ghost use Rattle.tatp_text.specs.Load.{IsLoad};
 
 use crate::checks::{check_numbers, check_rings};
 use command_edges::Fault;
 use dude_recover::Opened;
 use pmem_trait::Medium;
 use std::alloc::{AllocError, Global};
+use std::thread::{Threads, map_indices};
 use tatp_model::Request;
 use tatp_text::mix;
 
@@ -22,8 +25,37 @@ pub struct Load {
     pub files: u64,
 }
 
-/// The files of a load: so many random requests of each, and a `Sync`.
-fn mix_files(alloc: Global, subscribers: u64, load: &Load) -> Result<Vec<Vec<Request>>, AllocError>
+// A file of a load, or no request where there was no memory for it: a file that is made has one at least.
+fn mix_file(alloc: Global, subscribers: u64, load: &Load, file: u64) -> Vec<Request>
+    requires one_of_files { file < load.now.files }
+    requires each_has_one { load.now.files ≤ subscribers }
+    requires limited { subscribers ≤ 10000 }
+    requires few { load.now.count ≤ 99999 }
+    ensures load { 0 < length result.items →
+        IsLoad load.now.seed file load.now.files subscribers load.now.count result }
+    ensures few { length result.items ≤ 100000 }
+    ensures in_range { All IsInRange result.items }
+{
+    match mix(alloc, load.seed, file, load.files, subscribers, load.count) {
+        Ok(list) => list,
+        Err(AllocError) => Vec::new(alloc),
+    }
+}
+
+// Whether each file was made.
+fn are_made(lists: &[Vec<Request>]) -> bool
+    ensures { IsTrue result ↔ All (λ list. 0 < length list.items) lists.now }
+{
+    lists.iter().all(|list| !list.is_empty())
+}
+
+/// The files of a load, each made on a thread of its own: so many random requests of each, and a `Sync`.
+fn mix_files<R: Threads + Sync>(
+    rt: &R,
+    alloc: Global,
+    subscribers: u64,
+    load: &Load,
+) -> Result<Vec<Vec<Request>>, AllocError>
     requires each_has_one { load.now.files ≤ subscribers }
     requires limited { subscribers ≤ 10000 }
     requires few { load.now.count ≤ 99999 }
@@ -32,16 +64,22 @@ fn mix_files(alloc: Global, subscribers: u64, load: &Load) -> Result<Vec<Vec<Req
     ensures few { IfOk result (λ lists. EachIsFew (requests_in lists.items)) }
     ensures in_range { IfOk result (λ lists. AreInRange (requests_in lists.items)) }
 {
-    let mut lists = Vec::new(alloc);
-    for file in 0..load.files {
-        lists.push(mix(alloc, load.seed, file, load.files, subscribers, load.count)?)?;
+    let lists = map_indices(
+        rt,
+        alloc,
+        load.files as usize,
+        &|file| mix_file(alloc, subscribers, load, file as u64),
+    )?;
+    if !are_made(&lists) {
+        return Err(AllocError);
     }
     Ok(lists)
 }
 
 /// Makes a load over an opened image, unless it is refused: for more files than rings, for fewer subscribers than files, or
 /// for numbers that may not be enough.
-pub fn make_load<M: Medium>(
+pub fn make_load<R: Threads + Sync, M: Medium>(
+    rt: &R,
     alloc: Global,
     opened: &Opened<M>,
     load: &Load,
@@ -60,7 +98,7 @@ pub fn make_load<M: Medium>(
             files: load.files,
         });
     }
-    let Ok(lists) = mix_files(alloc, subscribers, load) else {
+    let Ok(lists) = mix_files(rt, alloc, subscribers, load) else {
         return Err(Fault::Memory);
     };
     check_numbers(opened.number, &lists)?;

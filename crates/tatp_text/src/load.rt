@@ -26,7 +26,7 @@ pub fn mix(
 {
     let each = subscribers / files;
     let mut generator = Lcg64Xsh32::new(seed, file);
-    let mut requests = Vec::new(alloc);
+    let mut requests = Vec::with_capacity(alloc, count as usize + 1)?;
     for _request in 0..count {
         let draws = Draws::take(&mut generator);
         let subscriber = draws.subscriber_of(file, files, each);
