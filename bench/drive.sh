@@ -24,7 +24,7 @@ top=$(cd "$(dirname "$0")/.." && pwd)
 . "$top/bench/figures.sh"
 read_options "$@"
 # As the script `dude` does. An opening differs less from run to run so.
-export GLIBC_TUNABLES=${GLIBC_TUNABLES:+$GLIBC_TUNABLES:}glibc.malloc.hugetlb=1
+export GLIBC_TUNABLES=${GLIBC_TUNABLES:+$GLIBC_TUNABLES:}glibc.malloc.hugetlb=1:glibc.malloc.mmap_max=0:glibc.malloc.arena_max=1
 folder=${words[0]:-.} memory=${words[1]:-/dev/shm}
 [ "${#words[@]}" -gt 2 ] || words=("$folder" "$memory" "yelmsker=$top/crates/dude/out/dude")
 names=() programs=()

@@ -17,7 +17,7 @@ top=$(cd "$(dirname "$0")/.." && pwd)
 program=$top/crates/dude/out/dude
 [ -x "$program" ] || { echo "build it first: ./dude --version" >&2; exit 1; }
 # As the script `dude` does.
-export GLIBC_TUNABLES=${GLIBC_TUNABLES:+$GLIBC_TUNABLES:}glibc.malloc.hugetlb=1
+export GLIBC_TUNABLES=${GLIBC_TUNABLES:+$GLIBC_TUNABLES:}glibc.malloc.hugetlb=1:glibc.malloc.mmap_max=0:glibc.malloc.arena_max=1
 room= tools=$(mktemp -d)
 trap 'rm -rf "$tools" ${room:+"$room"}' EXIT
 

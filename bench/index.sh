@@ -14,7 +14,7 @@ program=$(readlink -f "${words[0]:-$top/crates/dude/out/dude}") subscribers=1000
 room=$(mktemp -d -p /dev/shm)
 trap 'rm -rf "$room"' EXIT
 cd "$room"
-export GLIBC_TUNABLES=glibc.malloc.hugetlb=1
+export GLIBC_TUNABLES=glibc.malloc.hugetlb=1:glibc.malloc.mmap_max=0:glibc.malloc.arena_max=1
 
 "$program" plain.img format "$subscribers" 120000 4 256 > /dev/null 2>&1
 "$program" indexed.img xformat "$subscribers" 120000 4 256 > /dev/null 2>&1
