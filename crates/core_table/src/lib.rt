@@ -22,7 +22,7 @@ pub mod served;
 mod sizes;
 pub mod slot_choice;
 pub mod slot_rule;
-mod slot_steps;
+pub mod slot_steps;
 mod steps;
 pub mod stm;
 mod stm_partings;

@@ -1,8 +1,10 @@
 //! The atomic steps that move slots, each once for any event that is a step of its form, and the
-//! change of a slot that a seat took.
+//! change and the loan of a slot that a seat took.
 
 ghost use Rattle.atomic_table.specs.Table.{rest};
+ghost use Rattle.core_table.specs.Lent.{LendsSlot};
 ghost use Rattle.core_table.specs.Steps.{MayAct, IsForeseen, StepsAt, WordBecomes, WordChanges, IsSameSeat, HasSlot};
+ghost use Rattle.std.specs.Borrow.{sem};
 ghost use Rattle.std.specs.Prelude.{◌≡◌, ◌∷◌};
 
 use crate::change::{Change, change_word};
@@ -81,4 +83,19 @@ impl<S, X, K, P: SlotRule<S, X, K>> EventTable<S, X, K, P> {
     {
         self.table.shared.exchange(seat, slot, new)
     }
+}
+
+/// The value in the slot that the seat took last. When the borrow ends, the seat has what was
+/// written through it.
+pub fn lend_slot<'a, S, X, K, P: SlotRule<S, X, K>>(
+    seat: &'a mut Seat<S, X>,
+    events: &'a EventTable<S, X, K, P>,
+    slot: usize,
+) -> &'a mut S
+    requires table { seat.old.table_id ≡ events.now.id }
+    requires front { HasSlot seat.old slot }
+    ensures* writes_back { sem 𝓛 (LendsSlot S.row X.row seat.entry slot result) }
+    ensures value { seat.old.me.1 ≡ (slot, result.now) ∷ rest seat.old.me.1 }
+{
+    seat.slot_mut(&events.table.shared, slot)
 }

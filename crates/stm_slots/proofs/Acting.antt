@@ -1,6 +1,6 @@
 -- The steps of the turn keep the rule of the slots.
 use Rattle.std.proofs.Common.{◌≡◌, ◌≢◌, ◌==◌, ℕ, zero, suc, ◌+◌, ◌<◌, ◌≤◌, ◌⊎◌, Bool, true, false, List, [], ◌∷◌, ◌||◌, length, map, All, get_or, set, refl, sym, ap, ◌∙◌, subst, inl, inr, ⊎_elim, eq-eqb, ne_eqb, arith}
-use Rattle.std.specs.Prelude.{Option, Some, None, MatchBool}
+use Rattle.std.specs.Prelude.{Some, None, MatchBool}
 use Rattle.std.specs.List.{Contains}
 use Rattle.std.proofs.lemmas.List.{map-set, set-set, set-get_or, get_or_default}
 use Rattle.dude_base.proofs.WriteLists.{written_at}

@@ -46,10 +46,6 @@ use Rattle.stm_slots.specs.declared.opening.Opening.{Opening}
 use Rattle.stm_slots.proofs.Queueing.{place_inside}
 use Rattle.stm_turns.proofs.Holdings.{took_holding, went_holding, holding_on, put_acts, empty_acts_on, empty_fits, laid_in, front_of}
 
--- what a slot has was taken out, and put in again
-pub same_again : {S V : Type 0} (m mid w : Me S V) (k : ℕ) (x : S) {y : S} → mid ≡ (m.0, (k, y) ∷ rest m.1) → m.1 ≡ (k, x) ∷ rest m.1 → w ≡ (mid.0, (k, x) ∷ rest mid.1) → w ≡ m
-same_again {S} {V} m mid w k x {y} taken was laid = laid ∙ (ap (λ (a : Me S V). (a.0, (k, x) ∷ rest a.1)) taken ∙ ap (λ (l : List (ℕ × S)). (m.0, l)) (sym was))
-
 -- the slot that was taken last goes behind the others of an equal seat
 pub turned_me : {S V : Type 0} (m mid w : Me S V) → mid ≡ m → w ≡ (mid.0, turned mid.1) → w ≡ (m.0, turned m.1)
 turned_me {S} {V} m mid w same is = is ∙ ap (λ (a : Me S V). (a.0, turned a.1)) same

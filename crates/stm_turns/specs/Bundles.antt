@@ -1,5 +1,5 @@
 -- The seat with the turn and a gathering: what persists, and what of it stays.
-use Rattle.std.specs.Prelude.{◌≡◌, ◌≢◌, ℕ, ◌+◌, ◌<◌, Bool, true, false, List, [], ◌∷◌, ◌++◌, Option, Result, Ok, Err}
+use Rattle.std.specs.Prelude.{◌≡◌, ◌≢◌, ℕ, ◌+◌, ◌<◌, Bool, true, false, List, [], ◌∷◌, ◌++◌, Option, Some, None, Result, Ok, Err}
 use Rattle.std.specs.List.{Contains}
 use Rattle.dude_base.specs.Records.{RedoBundle, RedoRecord}
 use Rattle.pmem_trait.specs.Sights.{Sight}
@@ -23,7 +23,7 @@ use Rattle.stm_slots.specs.declared.slot.Slot.TheVariants.{Empty, Record}
 use Rattle.stm_slots.specs.declared.opening.Opening.{Opening}
 use Rattle.stm_turns.specs.Gathered.{AreApart, AreFronts, AreThreads, IsGathered}
 use Rattle.stm_turns.specs.Holding.{Held, Holding, IsHeld, box_held, boxes_held, slots_held, slots_out}
-use Rattle.stm_turns.specs.Turns.{HandedBelow, InTurn, IsAnnounced, Stepped, settled_view}
+use Rattle.stm_turns.specs.Turns.{EndsSettled, HandedBelow, InTurn, IsAnnounced, RisesTo, Stepped, settled_view}
 use Rattle.stm_turns.specs.declared.gathering.Gathering.{Gathering}
 
 -- the number behind this one isn't one that the view drew
@@ -40,6 +40,11 @@ pub record IsFullStill (ring : ℕ) (b : RedoBundle) (v : BackState) : Type 0 wh
   pub announced : IsAnnounced v number
   pub reproduced : v.log.reproduced ≡ number
   pub full : IsRingFull v ring b
+
+-- where there is a number, all ends settled at it, behind a bundle more of the thread; else at the one that is given, and the next isn't one that the view drew
+abbrev pub EndsNext : {M : Type 0} {ghosts : Ghosts M} → ℕ → ℕ → Seat (Slot M ghosts) (Known Beside) → TheHome M ghosts → TheHome M ghosts → Option ℕ → Type 0
+EndsNext own number seat h h2 None = EndsSettled seat h2 number × NextIsNotDrawn seat number
+EndsNext own number seat h h2 (Some n) = EndsSettled seat h2 n × ((m : ℕ) × RisesTo m own (state_of h.back) (state_of h2.back))
 
 module _ {M : Type 0} {ghosts : Ghosts M} (sight : M → Sight) (t : TableSight (Opening M ghosts)) where
   -- ---- with a gathering in hand

@@ -21,7 +21,7 @@ pub struct Gathering {
     pub ring: u64,
     pub bundle: Bundle,
     /// The threads whose boxes they are from, in the order of their numbers.
-    pub threads: [u64; MOST],
+    pub threads: [u8; MOST],
     pub count: u64,
     /// Of each thread, the place behind those that were taken.
     pub ahead: [u64; MAX_RINGS as usize],
@@ -40,7 +40,7 @@ impl Gathering {
         ensures { BeginsWith thread redo.now next.now boxes result }
     {
         let mut threads = [0; MOST];
-        threads[0] = thread;
+        threads[0] = thread as u8;
         let mut ahead = *next;
         ahead[thread as usize] = next_place(next[thread as usize], boxes);
         Gathering {
@@ -67,7 +67,7 @@ impl Gathering {
         if self.bundle.add(redo).is_err() {
             return false;
         }
-        self.threads[self.count as usize] = thread;
+        self.threads[self.count as usize] = thread as u8;
         self.count += 1;
         self.ahead[thread as usize] = next_place(self.ahead[thread as usize], boxes);
         true

@@ -46,7 +46,12 @@ pub fn empty_all<M: Medium>(
 {
     seat.turn();
     for number in 0..gathering.count {
-        empty_first(events, seat, home, gathering.threads[number as usize]);
+        empty_first(
+            events,
+            seat,
+            home,
+            gathering.threads[number as usize] as u64,
+        );
     }
 }
 
@@ -64,7 +69,7 @@ pub fn put_all_back<M: Medium>(
     seat.turn();
     let mut places = home.next;
     for number in 0..gathering.count {
-        let thread = gathering.threads[number as usize];
+        let thread = gathering.threads[number as usize] as u64;
         let place = places[thread as usize];
         let at = events.box_place(thread, place);
         events.load_by::<Brand, (u64, u64, &Home<M>)>(seat, at, &(thread, place, home));

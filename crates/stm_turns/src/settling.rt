@@ -2,10 +2,10 @@
 
 ghost use Rattle.back_store.specs.BackView.{state_of};
 ghost use Rattle.dude_base.specs.declared.limits.TheConstants.{MAX_RINGS, MAX_SPAN};
-ghost use Rattle.std.specs.Prelude.{◌≡◌, ◌≤◌, ◌<◌, ◌+◌, ℕ, [], slice_index, IfOk, IfSome, IfNone, false};
-ghost use Rattle.stm_turns.specs.Bundles.{NextIsNotDrawn};
+ghost use Rattle.std.specs.Prelude.{◌≡◌, ◌≤◌, ◌<◌, ◌+◌, ℕ, [], slice_index, Some, IfOk, IfSome, IfNone, false};
+ghost use Rattle.stm_turns.specs.Bundles.{EndsNext, NextIsNotDrawn};
 ghost use Rattle.stm_turns.specs.InFront.{AreLeft, IsLeast, NoneToTake};
-ghost use Rattle.stm_turns.specs.Turns.{Advanced, EndsSettled, FailsBy, InTurn, IsOwn, LivesBy, RisesTo};
+ghost use Rattle.stm_turns.specs.Turns.{Advanced, EndsSettled, FailsBy, HandedBelow, InTurn, IsOwn, LivesBy, found_in};
 
 use crate::boxes::see_front;
 use crate::bundles::persist_bundle;
@@ -16,6 +16,7 @@ use crate::letting::put_all_back;
 use crate::slots::SlotSeat;
 use back_store::BackFault;
 use dude_base::limits::{MAX_NUMBER, MAX_RINGS};
+use dude_base::redo::Redo;
 use pmem_trait::Medium;
 use stm_slots::home::Home;
 use stm_slots::slots_rule::Events;
@@ -105,6 +106,41 @@ fn persist_all<M: Medium>(
     Ok(())
 }
 
+/// With the record in hand that was found in front of the own boxes: where it has the number behind
+/// the announced one, persists a bundle that begins with it, and announces and reproduces; answers
+/// the number then. Else it is put back.
+fn persist_found<M: Medium>(
+    events: &Events<M>,
+    seat: &mut SlotSeat<M>,
+    home: &mut Home<M>,
+    own: u64,
+    redo: &Redo,
+    number: u64,
+    durable: &mut u64,
+) -> Result<Option<u64>, BackFault>
+    requires turn { InTurn M.sight events.now seat.old home.old
+        (found_in own home.old.next (Some redo.now)) }
+    requires thread { own < events.now.setup.threads }
+    requires drawn { HandedBelow seat.old.me.0 (Some redo.now.number) }
+    requires settled { EndsSettled seat.old home.old number }
+    ensures step { Advanced M.sight events.now durable.old durable.new
+        seat.old seat.new home.new [] }
+    ensures next { IfOk result (EndsNext own number seat.new home.old home.new) }
+    ensures cause { FailsBy result (state_of home.old.back) (state_of home.new.back) }
+{
+    let mut gathering = Gathering::begin(own, redo, &home.next, events.boxes());
+    if redo.number() != number + 1 {
+        put_all_back(events, seat, home, &gathering);
+        return Ok(None);
+    }
+    let mut fronts = look_at_all(events, seat, home, &gathering.ahead);
+    gather(events, seat, home, &mut gathering, &mut fronts);
+    if !persist_bundle(events, seat, home, &gathering, durable)? {
+        unreachable!();
+    }
+    Ok(Some(catch_up(events, seat, home, durable)?))
+}
+
 /// Where the number behind the announced one stands in front of the own boxes, persists a bundle
 /// that begins with it, and announces and reproduces; answers the number then.
 fn persist_next<M: Medium>(
@@ -121,26 +157,13 @@ fn persist_next<M: Medium>(
     requires settled { EndsSettled seat.old home.old number }
     ensures step { Advanced M.sight events.now durable.old durable.new
         seat.old seat.new home.new [] }
-    ensures none { IfOk result (λ next. IfNone next
-        (EndsSettled seat.new home.new number × NextIsNotDrawn seat.new number)) }
-    ensures some { IfOk result (λ next. IfSome next (λ n. EndsSettled seat.new home.new n
-        × ((m : ℕ) × RisesTo m own (state_of home.old.back) (state_of home.new.back)))) }
+    ensures next { IfOk result (EndsNext own number seat.new home.old home.new) }
     ensures cause { FailsBy result (state_of home.old.back) (state_of home.new.back) }
 {
     let Some(redo) = see_front(events, seat, home, own) else {
         return Ok(None);
     };
-    let mut gathering = Gathering::begin(own, &redo, &home.next, events.boxes());
-    if redo.number() != number + 1 {
-        put_all_back(events, seat, home, &gathering);
-        return Ok(None);
-    }
-    let mut fronts = look_at_all(events, seat, home, &gathering.ahead);
-    gather(events, seat, home, &mut gathering, &mut fronts);
-    if !persist_bundle(events, seat, home, &gathering, durable)? {
-        unreachable!();
-    }
-    Ok(Some(catch_up(events, seat, home, durable)?))
+    persist_found(events, seat, home, own, &redo, number, durable)
 }
 
 /// Persists what the boxes of all threads have, in bundles of consecutive numbers, and makes all

@@ -7,6 +7,7 @@ ghost use Rattle.stm_slots.specs.declared.slot.Slot.TheVariants.{Empty, Record};
 ghost use Rattle.stm_turns.specs.Turns.{FrontRecord};
 
 use core_table::event_table::Seat;
+use core_table::slot_steps::lend_slot;
 use dude_base::redo::Redo;
 use pmem_trait::Medium;
 use stm_slots::beside::Beside;
@@ -53,8 +54,9 @@ pub fn read_record<M: Medium>(events: &Events<M>, seat: &mut SlotSeat<M>, slot: 
     ensures me { seat.new.me ≡ seat.old.me }
     ensures was { seat.old.me.1 ≡ (slot, Record result) ∷ rest seat.old.me.1 }
 {
-    let redo = take_record(events, seat, slot);
-    let copy = redo.copy();
-    lay(events, seat, slot, Slot::Record(redo));
-    copy
+    match lend_slot(seat, events, slot) {
+        Slot::Record(redo) => redo.copy(),
+        Slot::Empty => unreachable!(),
+        Slot::Home(_home) => unreachable!(),
+    }
 }

@@ -1,7 +1,6 @@
-use Rattle.std.proofs.Common.{ℕ, [], arith, inl, subst}
-use Rattle.std.specs.Prelude.{Option, IfSome}
+use Rattle.std.proofs.Common.{[], arith, inl, subst}
 use Rattle.back_store.specs.BackView.{state_of}
-use Rattle.stm_turns.specs.Turns.{EndsSettled, RisesTo}
+use Rattle.stm_turns.specs.Bundles.{EndsNext}
 use Rattle.stm_turns.proofs.Faults.{err_still}
 use Rattle.stm_turns.proofs.Settled.{none_over, own_still, past_more}
 use Rattle.stm_turns.proofs.Seats.{then_advanced}
@@ -46,7 +45,7 @@ unreachable-requires g c =
 pub loop-look-preserved : goal.loop-look-preserved
 loop-look-preserved g c =
     let l = c.loop-look in let x = c.persist_next in
-    let some = subst (λ (o : Option ℕ). IfSome o (λ n. EndsSettled x.new.seat x.new.home n × ((m : ℕ) × RisesTo m c.args.own (state_of l.home.back) (state_of x.new.home.back)))) c.in-Some.is c.in_ok-next.ensures.some in
+    let some = subst (EndsNext c.args.own l.number x.new.seat l.home x.new.home) c.in-Some.is c.in_ok-next.ensures.next in
     record {
       step = then_advanced g.M.Medium.sight c.args.events.now c.args.durable.now l.durable x.new.durable c.args.seat.now l.seat x.new.seat l.home x.new.home [] [] l.invariant.step x.ensures.step;
       settled = some.0;
