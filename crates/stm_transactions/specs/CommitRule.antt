@@ -1,5 +1,5 @@
 -- What the steps of a commit ask of the slots, and what it leaves of them.
-use Rattle.std.specs.Prelude.{◌≡◌, ℕ, List}
+use Rattle.std.specs.Prelude.{ℕ, List}
 use mathlib.Core.Option.{Option}
 use Rattle.core_events.specs.Words.{State}
 use Rattle.core_events.specs.Views.{About}

@@ -21,4 +21,4 @@ pub mod Pages
 pub mod Draws
 pub mod Settles
 pub mod CommitEnds
-pub mod Kept
+pub mod Descriptor

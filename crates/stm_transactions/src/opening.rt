@@ -4,7 +4,7 @@ ghost use Rattle.std.specs.Prelude.{◌≡◌};
 ghost use Rattle.stm_transactions.specs.Opening.{IsFirstPass, IsFirstSeat};
 ghost use Rattle.stm_transactions.specs.Passes.{OutlastsPasses};
 
-use crate::kept::Kept;
+use crate::descriptor::Descriptor;
 use crate::pass::Pass;
 use crate::pass_numbers::PassNumbers;
 use core_table::event_table::Seat;
@@ -16,7 +16,7 @@ impl<X> Pass<X> {
     pub fn first<S, K, P: SlotRule<S, X, K>>(
         stm: &Stm<S, X, K, P>,
         mut seat: Seat<S, X>,
-        kept: Box<Kept>,
+        descriptor: Box<Descriptor>,
         opening: u64,
     ) -> Pass<X>
         requires seat { IsFirstSeat stm.now.events seat }
@@ -27,7 +27,7 @@ impl<X> Pass<X> {
         let thread = stm.number(&mut seat);
         Pass::of_seat(
             seat,
-            kept,
+            descriptor,
             PassNumbers::first(thread, stm.events.threads(), opening),
         )
     }

@@ -4,7 +4,7 @@ ghost use Rattle.std.specs.Prelude.{◌≡◌, ◌≤◌, IfOk, OnErr};
 ghost use Rattle.stm_transactions.specs.Partings.{AnswersAll, IsJoined, IsSplitOff};
 ghost use Rattle.stm_transactions.specs.Passes.{IsResting, OutlastsPasses};
 
-use crate::kept::Kept;
+use crate::descriptor::Descriptor;
 use crate::pass::Pass;
 use crate::pass_numbers::PassNumbers;
 use crate::split_fault::SplitFault;
@@ -33,13 +33,13 @@ impl<X> Pass<X> {
                 threads: stm.events.threads(),
             });
         }
-        let Ok(blank) = Kept::new(alloc) else {
+        let Ok(blank) = Descriptor::new(alloc) else {
             return Err(SplitFault::NoMemory);
         };
-        let (mut seat, kept) = self.take_seat();
+        let (mut seat, descriptor) = self.take_seat();
         let mut other = stm.split(&mut seat, draws);
         let thread = stm.number(&mut other);
-        self.put_seat(seat, kept, numbers.part(draws));
+        self.put_seat(seat, descriptor, numbers.part(draws));
         let newcomer = PassNumbers::newcomer(thread, draws, numbers.opening);
         Ok(Pass::of_seat(other, blank, newcomer))
     }
@@ -52,9 +52,9 @@ impl<X> Pass<X> {
         ensures joined { IsJoined stm.now.events self.old other self.new }
     {
         let numbers = self.numbers().join(&other.numbers());
-        let (mut seat, kept) = self.take_seat();
+        let (mut seat, descriptor) = self.take_seat();
         let (others, _blank) = other.take_seat();
         stm.join(&mut seat, others);
-        self.put_seat(seat, kept, numbers);
+        self.put_seat(seat, descriptor, numbers);
     }
 }

@@ -1,6 +1,6 @@
 //! A seat with a thread's number.
 
-use crate::kept::Kept;
+use crate::descriptor::Descriptor;
 use crate::pass_numbers::PassNumbers;
 use atomic_table::Badge;
 use core_table::event_table::Seat;
@@ -14,7 +14,7 @@ use std::mem;
 pub struct Pass<X> {
     badge: Badge<Known<X>>,
     numbers: PassNumbers,
-    kept: Option<Box<Kept>>,
+    descriptor: Option<Box<Descriptor>>,
 }
 
 impl<X> Model for Pass<X> {
@@ -22,11 +22,11 @@ impl<X> Model for Pass<X> {
 
     ghost Value = { PassSight X };
 
-    ghost use Rattle.stm_transactions.specs.Kept.{AreWithSeat};
+    ghost use Rattle.stm_transactions.specs.Descriptor.{AreWithSeat};
 
     ghost view = { λ p. record { table = p.badge.table_id; known = p.badge.views; numbers = p.numbers } };
 
-    ghost invariant = { λ p. AreWithSeat p.badge.views p.kept };
+    ghost invariant = { λ p. AreWithSeat p.badge.views p.descriptor };
 }
 
 impl<X> Pass<X> {
@@ -34,39 +34,48 @@ impl<X> Pass<X> {
     ghost use Rattle.stm_transactions.specs.Passes.{GivesSeat, HasSeat, is_given};
 
     /// A pass of this seat, with these lists and numbers.
-    pub fn of_seat<S>(seat: Seat<S, X>, kept: Box<Kept>, numbers: PassNumbers) -> Pass<X>
+    pub fn of_seat<S>(
+        seat: Seat<S, X>,
+        descriptor: Box<Descriptor>,
+        numbers: PassNumbers,
+    ) -> Pass<X>
         requires slots { seat.me.1 ≡ [] }
         ensures { result ≡ is_given seat numbers }
     {
         Pass {
             badge: seat.into_badge(),
             numbers,
-            kept: Some(kept),
+            descriptor: Some(descriptor),
         }
     }
 
     /// Takes the seat out, with the lists.
-    pub fn take_seat<S>(&mut self) -> (Seat<S, X>, Box<Kept>)
+    pub fn take_seat<S>(&mut self) -> (Seat<S, X>, Box<Descriptor>)
         requires seat { HasSeat self.old }
         ensures { GivesSeat self.old self.new result.0 }
     {
-        let Some(kept) = self.kept.take() else {
+        let Some(descriptor) = self.descriptor.take() else {
             unreachable!()
         };
         (
             mem::replace(&mut self.badge, Badge::blank()).into_seat(),
-            kept,
+            descriptor,
         )
     }
 
     /// Puts a seat in, with these lists and numbers.
-    pub fn put_seat<S>(&mut self, seat: Seat<S, X>, kept: Box<Kept>, numbers: PassNumbers)
+    pub fn put_seat<S>(
+        &mut self,
+        seat: Seat<S, X>,
+        descriptor: Box<Descriptor>,
+        numbers: PassNumbers,
+    )
         requires slots { seat.me.1 ≡ [] }
         ensures { self.new ≡ is_given seat numbers }
     {
         self.badge = seat.into_badge();
         self.numbers = numbers;
-        self.kept = Some(kept);
+        self.descriptor = Some(descriptor);
     }
 
     /// All its numbers.

@@ -20,13 +20,13 @@ impl<X> Pass<X> {
         ensures err { IfErr result (λ e. IsRefused stm.now.events e.seen self.old self.new) }
     {
         let numbers = self.numbers();
-        let (mut seat, kept) = self.take_seat();
+        let (mut seat, descriptor) = self.take_seat();
         let seen = stm.see_box(&mut seat, numbers.thread, numbers.next);
         if seen != 0 {
-            self.put_seat(seat, kept, numbers.meet_box());
+            self.put_seat(seat, descriptor, numbers.meet_box());
             return Err(BoxFull { seen });
         }
-        self.put_seat(seat, kept, numbers);
+        self.put_seat(seat, descriptor, numbers);
         Ok(())
     }
 }

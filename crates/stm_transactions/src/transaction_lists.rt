@@ -1,9 +1,9 @@
 //! The lists of a transaction.
 
-use crate::kept::Kept;
+use crate::descriptor::Descriptor;
 use dude_base::write_list::WriteList;
 
-/// The lists of a transaction, which lie in memory that its pass keeps.
+/// The lists of a transaction, which lie in its pass's descriptor.
 pub trait TransactionLists: Drop {
     ghost use Rattle.dude_base.specs.declared.write.Write.{Write};
     ghost use Rattle.std.specs.Prelude.{◌≡◌, ℕ, List};
@@ -21,11 +21,11 @@ pub trait TransactionLists: Drop {
     fn held(&self) -> &WriteList
         ensures { result.now ≡ held self.now };
 
-    /// Gives the memory back.
-    fn into_kept(self) -> Box<Kept>;
+    /// Gives the descriptor back.
+    fn into_descriptor(self) -> Box<Descriptor>;
 }
 
-impl TransactionLists for Box<Kept> {
+impl TransactionLists for Box<Descriptor> {
     ghost reads = { λ l. l.value.reads.items };
 
     ghost writes = { λ l. l.value.writes };
@@ -36,7 +36,7 @@ impl TransactionLists for Box<Kept> {
         &self.held
     }
 
-    fn into_kept(self) -> Box<Kept> {
+    fn into_descriptor(self) -> Box<Descriptor> {
         self
     }
 }

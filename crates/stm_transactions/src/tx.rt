@@ -13,8 +13,8 @@ ghost use Rattle.stm_transactions.specs.Stops.{CountsStop};
 use crate::box_rule::BoxRule;
 use crate::commit::Commit;
 use crate::counting::{count_commit, done_of, has_any};
+use crate::descriptor::Descriptor;
 use crate::ending::{commit_all, give_up};
-use crate::kept::Kept;
 use crate::lost::Lost;
 use crate::pass::Pass;
 use crate::pass_numbers::PassNumbers;
@@ -51,7 +51,7 @@ pub struct TxOver<'a, S, X, K, P: TransactionRule<S, X, K>, L: TransactionLists>
 }
 
 /// A transaction.
-pub type Tx<'a, S, X, K, P> = TxOver<'a, S, X, K, P, Box<Kept>>;
+pub type Tx<'a, S, X, K, P> = TxOver<'a, S, X, K, P, Box<Descriptor>>;
 
 impl<'a, S, X, K, P: TransactionRule<S, X, K> + BoxRule<S, X, K>> TxOver<
     'a,
@@ -59,7 +59,7 @@ impl<'a, S, X, K, P: TransactionRule<S, X, K> + BoxRule<S, X, K>> TxOver<
     X,
     K,
     P,
-    Box<Kept>,
+    Box<Descriptor>,
 > {
     ghost use Rattle.std.specs.Prelude.{IfOk, IfErr};
     ghost use Rattle.stm_transactions.specs.Ends.{HasCommitted, HasLostCommit, HasDrawLeft};
@@ -143,7 +143,7 @@ impl<'a, S, X, K, P: TransactionRule<S, X, K>, L: TransactionLists> TxOver<'a, S
         } = self;
         let_transact(stm);
         give_up(stm, &mut seat, &pinned, lists.held());
-        pass.put_seat(seat, lists.into_kept(), numbers.refuse(refused));
+        pass.put_seat(seat, lists.into_descriptor(), numbers.refuse(refused));
     }
 }
 

@@ -5,7 +5,7 @@ ghost use Rattle.pmem_trait.specs.Faults.{up_to_last};
 ghost use Rattle.std.specs.Prelude.{◌≡◌, ◌<◌, ◌≤◌, ◌+◌, IsTrue, MatchBool, vec_len, vec_capacity};
 
 use crate::bad_lock::BadLock;
-use crate::kept::Kept;
+use crate::descriptor::Descriptor;
 use crate::lock_for::lock_for;
 use crate::owning::own_lock;
 use crate::reading::read_word;
@@ -52,7 +52,7 @@ fn one_more(refused: u64) -> u64
     refused.saturating_add(1)
 }
 
-impl<'a, S, X, K, P: TransactionRule<S, X, K>> Words for TxOver<'a, S, X, K, P, Box<Kept>> {
+impl<'a, S, X, K, P: TransactionRule<S, X, K>> Words for TxOver<'a, S, X, K, P, Box<Descriptor>> {
     ghost use Rattle.std.specs.Prelude.{◌≡◌, ◌<◌, IfErr};
     ghost use Rattle.stm_transactions.specs.Transactions.{CountsRefusal, KeepsPages, StopsReading, StopsWriting, TurnsInto, turns_begin, turns_on, tx_sight, tx_well_formed};
     ghost use Rattle.word_space.specs.Steps.{AnswersSeen, IsSeenAt, MakesRead, MakesWrite, Shows, UsesWords, with_word};

@@ -33,10 +33,10 @@ pub fn fetch_on<M: Medium>(steps: &Steps<M>, p: &mut Pass, page: u64) -> Result<
     ensures { FetchesPage M.sight steps.now.events page result p.old p.new }
 {
     let numbers = p.numbers();
-    let (mut seat, kept) = p.take_seat();
+    let (mut seat, descriptor) = p.take_seat();
     let mut durable = numbers.durable;
     let result = page_fetching::fetch(steps, &mut seat, numbers.thread, page, &mut durable);
-    p.put_seat(seat, kept, after_fetch(numbers, &result, durable));
+    p.put_seat(seat, descriptor, after_fetch(numbers, &result, durable));
     result
 }
 

@@ -102,7 +102,7 @@ impl<M: Medium> Stm<M> {
             pager,
             mut slots,
             rest,
-            kept,
+            descriptor,
         } = room;
         let number = terms.first;
         let (opening, home) = first_home(terms, back, pager);
@@ -111,7 +111,7 @@ impl<M: Medium> Stm<M> {
             Ok((events, seat)) => {
                 let steps = core_table::stm::Stm { events };
                 let_transact(&steps);
-                let pass = Pass::first(&steps, seat, kept, number);
+                let pass = Pass::first(&steps, seat, descriptor, number);
                 let stm = Stm {
                     steps,
                     opening,

@@ -29,10 +29,10 @@ pub fn pump_on<M: Medium>(steps: &Steps<M>, p: &mut Pass) -> Result<Pumped, Pump
     ensures { PumpsPass M.sight steps.now.events result p.old p.new }
 {
     let numbers = p.numbers();
-    let (mut seat, kept) = p.take_seat();
+    let (mut seat, descriptor) = p.take_seat();
     let mut durable = numbers.durable;
     let result = stm_turns::pump(&steps.events, &mut seat, numbers.thread, &mut durable);
-    p.put_seat(seat, kept, after_pump(numbers, &result, durable));
+    p.put_seat(seat, descriptor, after_pump(numbers, &result, durable));
     result
 }
 

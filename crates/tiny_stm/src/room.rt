@@ -11,7 +11,7 @@ use pmem_trait::Medium;
 use shadow_pages::pager::Pager;
 use std::alloc::{AllocError, Global};
 use stm_slots::slot::Slot;
-use stm_transactions::kept::Kept;
+use stm_transactions::descriptor::Descriptor;
 
 /// The memory of running transactions: which page is in which frame, the slots of boxes with room
 /// for that of the back, and room for the records that stand in boxes at the end.
@@ -19,7 +19,7 @@ pub(crate) struct Room<M: Medium> {
     pub(crate) pager: Pager,
     pub(crate) slots: Vec<Slot<M>>,
     pub(crate) rest: Vec<Posted>,
-    pub(crate) kept: Box<Kept>,
+    pub(crate) descriptor: Box<Descriptor>,
 }
 
 impl<M: Medium> Room<M> {
@@ -41,13 +41,13 @@ impl<M: Medium> Room<M> {
     {
         let pager = first_pages(alloc, pages, frames)?;
         let rest = Vec::with_capacity(alloc, boxes as usize)?;
-        let kept = Kept::new(alloc)?;
+        let descriptor = Descriptor::new(alloc)?;
         let slots = empty_slots(alloc, boxes)?;
         Ok(Room {
             pager,
             slots,
             rest,
-            kept,
+            descriptor,
         })
     }
 }

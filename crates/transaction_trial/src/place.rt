@@ -16,7 +16,7 @@ use core_table::terms::Terms;
 use dude_base::limits::{MAX_BOXES, MAX_LOCKS};
 use dude_base::sizes::Sizes;
 use std::alloc::Global;
-use stm_transactions::kept::Kept;
+use stm_transactions::descriptor::Descriptor;
 use stm_transactions::pass::Pass;
 use stm_transactions::rule::let_transact;
 use tatp_layout::Layout;
@@ -81,8 +81,8 @@ fn share(alloc: Global, terms: &Terms) -> Option<(Small, Pass<()>)>
 {
     let (stm, seat) = Stm::new(alloc, terms, terms, Vec::new(alloc)).ok()?;
     let_transact(&stm);
-    let kept = Kept::new(alloc).ok()?;
-    let pass = Pass::first(&stm, seat, kept, 0);
+    let descriptor = Descriptor::new(alloc).ok()?;
+    let pass = Pass::first(&stm, seat, descriptor, 0);
     Some((stm, pass))
 }
 

@@ -8,7 +8,7 @@ use Rattle.stm_transactions.specs.declared.pass_numbers.PassNumbers.{PassNumbers
 use Rattle.stm_transactions.specs.Counts.{after_commit}
 use Rattle.stm_transactions.specs.Ends.{HasCommitted, HasLostCommit, entry_of}
 use Rattle.stm_transactions.proofs.PassEnds.{given_as, if_ok, if_err, rests_with, describes_entered, describes_lost, lost_leaves, greatest_upto, greatest_under}
-use Rattle.stm_transactions.proofs.tx.TxOver+S+X+K+P+Box+Kept.commit.Goals as goal
+use Rattle.stm_transactions.proofs.tx.TxOver+S+X+K+P+Box+Descriptor.commit.Goals as goal
 
 pub returns-clause-ok : goal.returns-clause-ok
 returns-clause-ok g c = if_ok c.done_of-done.result _ _ _ c.done_of-done.ensures (λ d e.

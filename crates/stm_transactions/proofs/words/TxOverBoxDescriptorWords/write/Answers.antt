@@ -7,7 +7,7 @@ use Rattle.stm_transactions.specs.Pins.{pin_list}
 use Rattle.stm_transactions.specs.Running.{IsRunning}
 use Rattle.stm_transactions.specs.Transactions.{tx_sight}
 use Rattle.stm_transactions.proofs.Writing.{room, running_write}
-use Rattle.stm_transactions.proofs.words.TxOverBoxKeptWords.write.Goals as goal
+use Rattle.stm_transactions.proofs.words.TxOverBoxDescriptorWords.write.Goals as goal
 
 pub own_lock-requires-clause-room : goal.own_lock-requires-clause-room
 own_lock-requires-clause-room g c =

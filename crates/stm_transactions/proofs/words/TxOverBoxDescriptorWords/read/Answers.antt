@@ -1,7 +1,7 @@
 use Rattle.std.proofs.Common.{rules}
 use Rattle.word_space.proofs.Meets.{value_read}
 use Rattle.stm_transactions.specs.Transactions.{tx_sight}
-use Rattle.stm_transactions.proofs.words.TxOverBoxKeptWords.read.Goals as goal
+use Rattle.stm_transactions.proofs.words.TxOverBoxDescriptorWords.read.Goals as goal
 
 pub returns-in-Some-clause-value : goal.returns-in-Some-clause-value
 returns-in-Some-clause-value g c =
