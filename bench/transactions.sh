@@ -12,7 +12,8 @@
 #         --minute runs long files for a minute in place of the short runs, and times nothing
 #         --csv appends a line for each figure to FILE; bench/figures.sh has its fields
 #
-# The time is from the start of the threads to the end of the last one; the median of five runs, or of N.
+# The time is from the start of the threads, in C from the first request, to the end of the last one; the median of five runs,
+# or of N.
 set -euo pipefail
 shopt -s inherit_errexit
 top=$(cd "$(dirname "$0")/.." && pwd)

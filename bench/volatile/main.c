@@ -1,9 +1,10 @@
 // main IMAGE SEED COUNT THREADS LOCKS
 //
 // Carries out the load of `drive SEED COUNT THREADS` on the home of a new IMAGE, in a transactional memory that keeps
-// nothing: a file's requests on a thread of its own. Prints on standard output the summary that `drive` prints, and on
-// standard error, with tabs between, the microseconds from the start of the threads to the end of the last one, the requests,
-// the changes, and the transactions that were begun anew.
+// nothing: each thread makes a file's requests, waits for the others, and carries them out. Prints on standard output the
+// summary that `drive` prints, and on standard error, with tabs between, the microseconds from the first request carried out to
+// the end of the last thread, the requests, the changes, the transactions that were begun anew, and the microseconds from the
+// start of the threads to the printed summary: that is all that `drive` does once its image is open, but for keeping replies.
 #include "home.h"
 #include <pthread.h>
 #include <stdio.h>
@@ -21,10 +22,12 @@ static const uint32_t shares[SYNC] = {35, 45, 80, 82, 96, 98, 100};
 struct worker {
     _Alignas(64) struct transaction transaction;
     pthread_t thread;
+    struct timespec ready;
     struct request *requests;
-    uint64_t count, sum, changes, replies[KINDS][REPLIES];
+    uint64_t seed, file, files, subscribers, count, sum, changes, replies[KINDS][REPLIES];
 };
 static struct worker workers[MOST_THREADS];
+static pthread_barrier_t made;
 
 struct generator { uint64_t state, step; };
 
@@ -57,9 +60,26 @@ static struct request request_of(struct generator *it, uint64_t file, uint64_t f
     return made;
 }
 
+static void demand(int holds, const char *what) {
+    if (holds) return;
+    fprintf(stderr, "%s\n", what);
+    exit(1);
+}
+
+static void make_requests(struct worker *worker) {
+    struct generator generator = generator_of(worker->seed, worker->file);
+    worker->requests = malloc(worker->count * sizeof *worker->requests);
+    demand(worker->requests != NULL || worker->count == 0, "no memory");
+    for (uint64_t at = 0; at < worker->count; at++)
+        worker->requests[at] = request_of(&generator, worker->file, worker->files, worker->subscribers / worker->files);
+}
+
 static void *work(void *given) {
     struct worker *worker = given;
     struct transaction *t = &worker->transaction;
+    make_requests(worker);
+    clock_gettime(CLOCK_MONOTONIC, &worker->ready);
+    pthread_barrier_wait(&made);
     for (uint64_t at = 0; at < worker->count; at++) {
         const struct request *request = &worker->requests[at];
         (void)setjmp(t->again);
@@ -70,12 +90,6 @@ static void *work(void *given) {
         worker->changes += request->kind >= UPDATE_SUBSCRIBER_DATA && reply == OK;
     }
     return NULL;
-}
-
-static void demand(int holds, const char *what) {
-    if (holds) return;
-    fprintf(stderr, "%s\n", what);
-    exit(1);
 }
 
 // Opens the memory with the home of an image, and gives how many subscribers it has.
@@ -108,34 +122,41 @@ static void print_summary(int threads) {
     printf("%s %d 0 0 0 0 0\n", names[SYNC], threads);
 }
 
+static long micros_between(const struct timespec *from, const struct timespec *to) {
+    return (to->tv_sec - from->tv_sec) * 1000000 + (to->tv_nsec - from->tv_nsec) / 1000;
+}
+
 int main(int words, char **word) {
     demand(words == 6, "main IMAGE SEED COUNT THREADS LOCKS");
     uint64_t seed = strtoull(word[2], NULL, 10), count = strtoull(word[3], NULL, 10), changes = 0, anew = 0;
     int threads = atoi(word[4]);
     demand(threads >= 1 && threads <= MOST_THREADS, "THREADS is from 1 to 16");
     uint64_t subscribers = open_image(word[1], strtoull(word[5], NULL, 10));
+    struct timespec start, end, printed;
+    demand(pthread_barrier_init(&made, NULL, threads) == 0, "no barrier");
+    clock_gettime(CLOCK_MONOTONIC, &start);
     for (int at = 0; at < threads; at++) {
         struct worker *worker = &workers[at];
-        struct generator generator = generator_of(seed, at);
         worker->transaction.owner = at;
+        worker->seed = seed;
+        worker->file = at;
+        worker->files = threads;
+        worker->subscribers = subscribers;
         worker->count = count;
-        worker->requests = malloc(count * sizeof *worker->requests);
-        demand(worker->requests != NULL, "no memory");
-        for (uint64_t k = 0; k < count; k++) worker->requests[k] = request_of(&generator, at, threads, subscribers / threads);
+        demand(pthread_create(&worker->thread, NULL, work, worker) == 0, "no thread");
     }
-    struct timespec start, end;
-    clock_gettime(CLOCK_MONOTONIC, &start);
-    for (int at = 0; at < threads; at++)
-        demand(pthread_create(&workers[at].thread, NULL, work, &workers[at]) == 0, "no thread");
     for (int at = 0; at < threads; at++) pthread_join(workers[at].thread, NULL);
     clock_gettime(CLOCK_MONOTONIC, &end);
     print_summary(threads);
+    clock_gettime(CLOCK_MONOTONIC, &printed);
+    long carried_out = 0;
     for (int at = 0; at < threads; at++) {
+        long since = micros_between(&workers[at].ready, &end);
+        if (at == 0 || since < carried_out) carried_out = since;
         changes += workers[at].changes;
         anew += workers[at].transaction.aborts;
     }
-    long micros = (end.tv_sec - start.tv_sec) * 1000000 + (end.tv_nsec - start.tv_nsec) / 1000;
-    fprintf(stderr, "%ld\t%llu\t%llu\t%llu\n", micros, (unsigned long long)(count * threads), (unsigned long long)changes,
-        (unsigned long long)anew);
+    fprintf(stderr, "%ld\t%llu\t%llu\t%llu\t%ld\n", carried_out, (unsigned long long)(count * threads),
+        (unsigned long long)changes, (unsigned long long)anew, micros_between(&start, &printed));
     return 0;
 }
