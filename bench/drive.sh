@@ -1,11 +1,12 @@
 #!/usr/bin/env bash
 # Times generated loads, on new images with room for 12 call rows a subscriber and a ring of 256 cells for each file, in a
 # folder on a disk and in memory: `drive 1 10000 F` and `drive 1 80000 F` for F = 1, 2 and 4 files, each on a thread of its
-# own, and `drive 1 20000 4`, the load of bench/stores.sh, on 1,000 subscribers; and the last one on 100 and on 10,000, beside
-# the rate at which that medium takes single lines of 64 bytes, each synced. Of each load: requests a second and how often they
-# are those of one file, syncs a change and a second, the numbers that no request has, and the peak memory. A change is a
-# request whose update got a number: the updates that the summary says were OK. Outside the gate. Needs programs that are
-# built, with the commands `format`, `recover` and `drive`.
+# own; `drive 1 80000 F` for F = 1 and 2 with a ring free, so that one thread more takes turns; and `drive 1 20000 4`, the load
+# of bench/stores.sh, on 1,000 subscribers; and the last one on 100 and on 10,000, beside the rate at which that medium takes
+# single lines of 64 bytes, each synced. Of each load: requests a second and how often they are those of one file, syncs a
+# change and a second, the numbers that no request has, and the peak memory. A change is a request whose update got a number:
+# the updates that the summary says were OK. Outside the gate. Needs programs that are built, with the commands `format`,
+# `recover` and `drive`.
 #
 #     bench/drive.sh [--csv FILE] [--rounds N] [FOLDER [MEMORY [PROGRAM..]]]
 #         FOLDER on a disk, or here; MEMORY one in memory, or /dev/shm
@@ -128,7 +129,7 @@ milliseconds() { awk -v micros="$1" 'BEGIN { printf "%.1f", micros / 1000 }'; }
 # Prints what the rounds of a case gave.
 tell() {
   local key=$1 count=$2 files=$3 micros range syncs rate times_one= told="syncs not counted, for want of strace"
-  local name=${names[${key%.*}]} subscribers=${key#*.}
+  local name=${names[${key%.*}]}$beside subscribers=${key#*.}
   micros=$(median "$room/times.$key")
   sort -n -o "$room/times.$key" "$room/times.$key"
   range="$(milliseconds "$(sed -n 1p "$room/times.$key")") to $(milliseconds "$(sed -n '$p' "$room/times.$key")")"
@@ -153,15 +154,16 @@ tell() {
 }
 
 # Times the drive of so many requests a file and files on images of these numbers of subscribers, by all programs in turn,
-# and prints a line for each.
+# and prints a line for each. The images have a ring for each file, and so many more.
 drive() {
-  local count=$1 files=$2 keys=() key size program turn
+  local count=$1 files=$2 rings=$(($2 + $3)) beside= keys=() key size program turn
+  [ "$3" -eq 0 ] || beside=" with a ring free"
   for program in "${!programs[@]}"; do
-    for size in "${@:3}"; do
+    for size in "${@:4}"; do
       key=$program.$size
       most[$key]=0
       keys+=("$key")
-      measure "${programs[program]}" "$room/new.$key" format "$size" "$((12 * size))" "$files" 256 > /dev/null
+      measure "${programs[program]}" "$room/new.$key" format "$size" "$((12 * size))" "$rings" 256 > /dev/null
       : > "$room/times.$key"
     done
   done
@@ -187,10 +189,11 @@ for where in disk memory; do
   room=$(mktemp -d "$place/bench.XXXXXX")
   echo "$place ($(file_system "$place")), load $(cut -d ' ' -f 1 /proc/loadavg):"
   for count in 10000 80000; do
-    for files in 1 2 4; do drive "$count" "$files" 1000; done
+    for files in 1 2 4; do drive "$count" "$files" 0 1000; done
   done
-  drive 20000 4 1000
-  drive 20000 4 100 10000
+  for files in 1 2; do drive 80000 "$files" 1 1000; done
+  drive 20000 4 0 1000
+  drive 20000 4 0 100 10000
   growth 100 10000
   cp "$room/new.0.100" "$room/tatp.img"
   echo "  the medium itself: $(lines_per_second "$room/tatp.img") synced lines of 64 bytes a second"
