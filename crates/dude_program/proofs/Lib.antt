@@ -6,6 +6,7 @@ pub mod Contents
 pub mod Crashes
 pub mod EachCommand
 pub mod Endings
+pub mod ExtraFile
 pub mod FileCommands
 pub mod FilesRead
 pub mod FollowEnds

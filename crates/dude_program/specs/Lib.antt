@@ -12,5 +12,6 @@ pub mod Ship
 pub mod Shipping
 pub mod Show
 pub mod Taking
+pub mod Turner
 pub mod Work
 pub mod World

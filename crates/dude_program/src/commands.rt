@@ -14,6 +14,7 @@ use crate::load::{Load, make_load};
 use crate::output::{end_with_lines, end_with_summary, print_dump};
 use crate::run_options::RunOptions;
 use crate::shown::Shown;
+use crate::turner::with_turner;
 use crate::worked::{Worked, idle, work};
 use command_edges::read_files;
 use command_openings::{make_and_open, open_and_announce};
@@ -155,7 +156,8 @@ pub fn drive<R: Threads + Sync, M: Medium + Send, K: Sink, G: Gate + Sync>(
                 locks: None,
             };
             let run = options.over(opened.sizes.pages);
-            let ran = threaded(rt, alloc, opened, &run, &lists, gate);
+            let files = with_turner(rt, alloc, lists, &opened.sizes, run.frames);
+            let ran = threaded(rt, alloc, opened, &run, &files, gate);
             end_with_summary(alloc, Worked::from_ran(ran), out)
         }
         Err(fault) => Ended::refused(alloc, fault, opened.back.into_medium()),

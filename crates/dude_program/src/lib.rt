@@ -22,6 +22,7 @@ mod ship;
 mod shipping;
 mod shown;
 mod top;
+mod turner;
 mod worked;
 
 pub use command_edges::{Fault, fault_text};

@@ -14,6 +14,7 @@ use crate::output::end_with_lines;
 use crate::prepared::{Prepared, prepare};
 use crate::print_time::PrintTime;
 use crate::run_options::RunOptions;
+use crate::turner::with_turner;
 use crate::worked::Worked;
 use command_edges::Fault;
 use dude_io::{Files, Sink};
@@ -60,7 +61,8 @@ pub fn run<R: Threads + Sync, M: Medium + Send, F: Files, K: Sink + Send, G: Gat
             let run = options.over(opened.sizes.pages);
             match time {
                 PrintTime::AtEnd => {
-                    let ran = threaded(rt, alloc, opened, &run, &lists, gate);
+                    let requests = with_turner(rt, alloc, lists, &opened.sizes, run.frames);
+                    let ran = threaded(rt, alloc, opened, &run, &requests, gate);
                     end_with_lines(alloc, Worked::from_ran(ran), out)
                 }
                 PrintTime::Meanwhile => {

@@ -104,8 +104,9 @@ fn carry_out<R: Threads + Sync, M: Medium + Send, F: Files, K: Sink + Send, G: G
     }
 }
 
-/// Carries out a command. `run`, `stream` and `drive` start a thread for each file, `stream` one more that prints, and `drive`,
-/// before them, one for each file that makes its load. All are joined.
+/// Carries out a command. `run`, `stream` and `drive` start a thread for each file; `run` and `drive` one more that persists for
+/// them, where a file is long, a ring and a processor are free, and each page has a frame; `stream` one more that prints; and
+/// `drive`, before them, one for each file that makes its load. All are joined.
 ///
 /// The words are the command and its arguments, without the image's name. `medium` is the image; `files` gives the
 /// request files, a printed run and packets, and `out` gets the output. The medium is given back, also after a fault.

@@ -1,5 +1,5 @@
 -- The jobs of files before and behind their threads.
-use Rattle.std.proofs.Common.{◌≡◌, ℕ, suc, ◌+◌, ◌<◌, List, [], ◌∷◌, length, get_or, map, refl, ap, ap₂, sym, ◌∙◌, subst, arith}
+use Rattle.std.proofs.Common.{◌≡◌, ℕ, zero, suc, ◌+◌, ◌<◌, List, [], ◌∷◌, ◌++◌, length, get_or, map, refl, ap, ap₂, sym, ◌∙◌, subst, arith}
 use Rattle.std.specs.Global.{Vec}
 use Rattle.std.specs.List.{All, sum_by}
 use Rattle.std.specs.Vec.{with_items}
@@ -27,6 +27,16 @@ pub first_kept : {X : Type 0} (count : ℕ) (old new : List (Job X)) → length 
 first_kept count old [] long keeps h = tt
 first_kept count [] (n ∷ ns) long keeps h = absurd (omega arith)
 first_kept count (o ∷ os) (n ∷ ns) long keeps h = omega (arith, h, (keeps 0 o (omega arith)).room)
+
+-- what holds of each place of two pairs of lists holds of each place of the pairs joined
+pub each_joined : {A : Type 0} (R : A → A → Type 0) (a b c e : List A) → length c ≡ length a
+    → ((i : ℕ) (d : A) → i < length a → R (get_or a i d) (get_or c i d)) → ((i : ℕ) (d : A) → i < length b → R (get_or b i d) (get_or e i d))
+    → (i : ℕ) (d : A) → i < length a + length b → R (get_or (a ++ b) i d) (get_or (c ++ e) i d)
+each_joined R [] b [] e long first second i d lt = second i d (omega arith)
+each_joined R [] b (n ∷ c) e long first second i d lt = absurd (omega arith)
+each_joined R (o ∷ a) b [] e long first second i d lt = absurd (omega arith)
+each_joined R (o ∷ a) b (n ∷ c) e long first second zero d lt = first 0 d (omega arith)
+each_joined R (o ∷ a) b (n ∷ c) e long first second (suc i) d lt = each_joined R a b c e (omega arith) (λ j x within. first (suc j) x (omega arith)) second i d (omega arith)
 
 module _ {X K : Type 0} (t : TableSight K) (files : List (List Request)) where
   pub jobs_of : (jobs : List (Job X)) → AreFresh t files jobs → All (IsJobOf t files) jobs

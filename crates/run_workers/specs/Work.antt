@@ -1,5 +1,5 @@
 -- What is said of the work that all workers share.
-use Rattle.std.specs.Prelude.{ℕ, List, map}
+use Rattle.std.specs.Prelude.{ℕ, ◌<◌, List, length, map, slice_index_or}
 use Rattle.tatp_model.specs.declared.request.Request.{Request}
 use Rattle.core_table.specs.Layout.{TableSight}
 use Rattle.stm_transactions.specs.Passes.{PassSight}
@@ -88,6 +88,10 @@ module _ {S X K P T G : Type 0} where
     pub lane : IsSameLane old.outbox new.outbox
     pub sent : SendsFirst new
     pub worked : IsOverOfFile w new
+
+  -- the worker of each of these jobs has ended
+  abbrev pub EachHasEnded : Work S X K P T G → List (Job X) → List (Job X) → Type 0
+  EachHasEnded w old new = (i : ℕ) (d : Job X) → i < length old → HasEnded w (slice_index_or old i d) (slice_index_or new i d)
 
   -- The workers of these jobs have ended: each one's requests are done as far as it went, it serves its file still,
   -- sends into its lane still, and sent just the first so many replies.

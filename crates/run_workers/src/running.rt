@@ -1,13 +1,11 @@
 //! The files are served in threads, with a printer beside them or without, from their jobs to what is done.
 
-ghost use Rattle.run_workers.specs.Job.{KeepPlaces};
 ghost use Rattle.run_workers.specs.Jobs.{HasRoom};
 ghost use Rattle.run_workers.specs.Joined.{AreJoined};
 ghost use Rattle.run_workers.specs.Printed.{IsPrinted};
-ghost use Rattle.run_workers.specs.Sending.{KeepLanes, SendsFirst};
 ghost use Rattle.run_workers.specs.Streamed.{HasStreamed};
-ghost use Rattle.run_workers.specs.Work.{AreOver, AreReady, CameBack, HasEnded, HasServedAll, HaveEnded};
-ghost use Rattle.run_workers.specs.Work.{IsNewOfFile, IsOverOfFile, IsReady, MayServeAll, MaySplit, work_files, work_table};
+ghost use Rattle.run_workers.specs.Work.{AreOver, AreReady, CameBack, EachHasEnded, HasEnded, HasServedAll, HaveEnded};
+ghost use Rattle.run_workers.specs.Work.{IsReady, MayServeAll, MaySplit, work_files, work_table};
 ghost use Rattle.std.specs.Prelude.{◌≡◌, ◌<◌, length, All, IfErr, IfOk};
 ghost use Rattle.std.specs.Thread.{IsSync};
 
@@ -132,23 +130,58 @@ impl<
     }
 
     /// Does each job in a thread of its own, and waits for all. The work of a thread that can't be started is done by the
-    /// caller. The count of ended workers rises with each.
+    /// caller, that of the last job behind all others. The count of ended workers rises with each.
     pub fn run_jobs<R: Threads + Sync>(&self, rt: &R, ended: &AtomicU64, jobs: &mut [Job<X>])
         requires { AreReady self.now jobs.old }
         ensures { HaveEnded self.now jobs.old jobs.new }
     {
-        self.run_each(rt, ended, jobs);
+        self.run_beside_last(rt, ended, jobs);
+    }
+
+    // Does each job in a thread of its own. That of the last one is started first; where it can't be, it is done last.
+    fn run_beside_last<R: Threads + Sync>(&self, rt: &R, ended: &AtomicU64, jobs: &mut [Job<X>])
+        requires { All (IsReady self.now) jobs.old }
+        ensures { EachHasEnded self.now jobs.old jobs.new }
+    {
+        let before = jobs.len().saturating_sub(1);
+        if before == 0 {
+            self.run_each(rt, ended, jobs);
+            return;
+        }
+        let (others, last) = jobs.split_at_mut(before);
+        self.run_both(rt, ended, others, last);
+    }
+
+    // Does the last jobs in threads that are started first, and the others in threads of theirs.
+    fn run_both<R: Threads + Sync>(
+        &self,
+        rt: &R,
+        ended: &AtomicU64,
+        others: &mut [Job<X>],
+        last: &mut [Job<X>],
+    )
+        requires others { All (IsReady self.now) others.old }
+        requires last { All (IsReady self.now) last.old }
+        ensures others { EachHasEnded self.now others.old others.new }
+        ensures last { EachHasEnded self.now last.old last.new }
+    {
+        join_mut(
+            rt,
+            &mut ||
+                requires { IsSync R.row × All (IsReady self.now) last.now }
+                ensures { EachHasEnded self.entry.now last.entry.now last.exit.now }
+            { self.run_each(rt, ended, last) },
+            &mut ||
+                requires { IsSync R.row × All (IsReady self.now) others.now }
+                ensures { EachHasEnded self.entry.now others.entry.now others.exit.now }
+            { self.run_each(rt, ended, others) },
+        );
     }
 
     // Does each job in a thread of its own.
     fn run_each<R: Threads + Sync>(&self, rt: &R, ended: &AtomicU64, jobs: &mut [Job<X>])
-        requires may { MayServeAll self.now }
-        requires fresh { All (IsNewOfFile self.now) jobs.old }
-        requires sent { All SendsFirst jobs.old }
-        ensures place { KeepPlaces jobs.old jobs.new }
-        ensures lanes { KeepLanes jobs.old jobs.new }
-        ensures sent { All SendsFirst jobs.new }
-        ensures worked { All (IsOverOfFile self.now) jobs.new }
+        requires { All (IsReady self.now) jobs.old }
+        ensures { EachHasEnded self.now jobs.old jobs.new }
     {
         let threads = jobs.len().max(1);
         thread::for_each_mut(

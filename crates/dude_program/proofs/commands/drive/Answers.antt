@@ -10,6 +10,7 @@ use Rattle.dude_program.proofs.Stops.{ends_at_open, unless_opened}
 use Rattle.dude_program.proofs.Crashes.{left_opened}
 use Rattle.dude_program.proofs.Came.{opened_old, came_ran, came_refused}
 use Rattle.dude_program.proofs.EachCommand.{drive_came, drive_opens, drive_passes, held_as_opened, is_opening_of, opening_of}
+use Rattle.dude_program.proofs.ExtraFile.{may_run_lists, runs_over_lists}
 use Rattle.dude_program.proofs.Works.{mixed_length, ran_on_threads}
 use Rattle.dude_program.proofs.commands.drive.Goals as goal
 
@@ -29,31 +30,32 @@ threaded-ran-requires-clause-may g c κs inside =
     let lists = c.in-Ok-make_load.lists.items in
     let made = c.in-Ok-make_load.ensures.made in
     let long : length lists ≡ load.files = mixed_length (λ file. mixed load.seed file load.files o.sizes.subscribers load.count) lists load.files made.requests in
-    rw c.deref.ensures.value (record {
+    rw c.deref.ensures.value (may_run_lists o c.over-run.result lists c.with_turner-files.result.items c.with_turner-files.ensures (record {
       held = held_as_opened o opened (g.M.Medium.sight c.args.medium) (c.in-Ok.ensures.is_open (opening_of o opened) (is_opening_of o opened)).1;
       run_within = c.over-run.ensures.within;
       some = omega (arith, long, c.requires.files.0);
       rings = made.rings;
       in_range = made.in_range;
       numbers = made.numbers;
-    })
+    }))
 
 pub returns-in-Ok-make_load : goal.returns-in-Ok-make_load
 returns-in-Ok-make_load g c = record {
   ends = λ f.
       let load = c.args.load in
-      let lists = c.deref.result.now in
+      let lists = c.in-Ok-make_load.lists.items in
       let o = c.in-Ok.opened in
       let opened = c.in-Ok.ensures.opened in
       let opening = opening_of o opened in
       let is_open = c.in-Ok.ensures.is_open opening (is_opening_of o opened) in
       let made = c.in-Ok-make_load.ensures.made in
-      let are : requests_in lists ≡ load_of o.sizes.subscribers load.seed load.count load.files = ap requests_in c.deref.ensures.value ∙ made.requests in
+      let are : requests_in lists ≡ load_of o.sizes.subscribers load.seed load.count load.files = made.requests in
       let worked = c.from_ran.ensures in
-      let ran = ran_on_threads o opened c.over-run.result lists c.threaded-ran.result c.threaded-ran.ensures c.from_ran.result worked.done worked.medium worked.last worked.fault in
+      let runs = runs_over_lists o c.over-run.result o.sizes.rings lists c.deref.result.now c.threaded-ran.result (rw c.deref.ensures.value c.with_turner-files.ensures) c.threaded-ran.ensures in
+      let ran = ran_on_threads o opened c.over-run.result lists c.threaded-ran.result runs c.from_ran.result worked.done worked.medium worked.last worked.fault in
       let came = came_ran (no_files (DriveLoad load.seed load.count load.files) f refl) (opened_old (drive_opens load.seed load.count load.files _) refl is_open.0 is_open.1)
       refl (λ known. inr c.over-run.ensures.frames) (λ order n any. tt) refl are
-      (λ opens why refuses. drive_passes load.seed load.count load.files f opening (requests_in lists) are made.files made.subscribers (rw c.deref.ensures.value made.numbers) why refuses)
+      (λ opens why refuses. drive_passes load.seed load.count load.files f opening (requests_in lists) are made.files made.subscribers made.numbers why refuses)
       c.from_ran.result.fault (ran opening (is_opening_of o opened)) in
       rw (c.end_with_summary.ensures.work.medium, c.end_with_summary.ensures.work.done) (ends_printed _ _ _ came (λ whole. (refl, tt)) c.end_with_summary.ensures.printed);
 }
