@@ -12,6 +12,12 @@ use core_table::event_table::Seat;
 use core_table::slot_rule::SlotRule;
 use core_table::stm::Stm;
 
+/// The use of a look: a word is read.
+pub struct ForRead;
+
+/// The use of a look: the lock is to be owned.
+pub struct ForOwn;
+
 // Whether a read before has the lock of this one.
 fn repeats_lock(reads: &[(u64, u64)], k: usize, locks: u64) -> bool
     requires { (k < length reads.now) × (0 < locks) }
@@ -74,8 +80,9 @@ pub fn extend_all<S, X, K, P: SlotRule<S, X, K>>(
     Ok(n)
 }
 
-/// Looks at a lock, and extends the snapshot where the lock's version is over it.
-pub fn look_at<S, X, K, P: SlotRule<S, X, K>>(
+/// Looks at a lock, and extends the snapshot where the lock's version is over it. `U` is the use of the look. The compiler makes
+/// one for each use, and builds it in there, which is faster than a call.
+pub fn look_at<U, S, X, K, P: SlotRule<S, X, K>>(
     stm: &Stm<S, X, K, P>,
     seat: &mut Seat<S, X>,
     thread: u64,

@@ -9,7 +9,7 @@ ghost use Rattle.stm_transactions.specs.Owns.{FailsToOwn, HasOwned, HasOwnedNone
 ghost use Rattle.stm_transactions.specs.Seats.{OutlastsReading, Stays};
 
 use crate::bad_lock::BadLock;
-use crate::looking::look_at;
+use crate::looking::{ForOwn, look_at};
 use core_table::event_table::Seat;
 use core_table::slot_rule::SlotRule;
 use core_table::stm::Stm;
@@ -44,7 +44,7 @@ pub fn own_lock<S, X, K, P: SlotRule<S, X, K>>(
         return Ok(());
     }
     let _len = held.len();
-    let look = look_at(stm, seat, thread, *snapshot, lock, reads)?;
+    let look = look_at::<ForOwn, S, X, K, P>(stm, seat, thread, *snapshot, lock, reads)?;
     let seen = look.seen;
     *snapshot = look.snapshot;
     let found = stm.take(seat, lock, seen, thread);

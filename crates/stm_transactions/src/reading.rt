@@ -2,7 +2,7 @@
 
 ghost use Rattle.core_table.specs.Steps.{BelongsTo};
 ghost use Rattle.dude_base.specs.declared.limits.TheConstants.{PAGE as PAGE_WORDS};
-ghost use Rattle.std.specs.Prelude.{◌≡◌, ◌*◌, ◌<◌, IfOk, IfErr, OnErr};
+ghost use Rattle.std.specs.Prelude.{◌*◌, ◌<◌, IfOk, IfErr, OnErr};
 ghost use Rattle.stm_transactions.specs.Looks.{IsReading};
 ghost use Rattle.stm_transactions.specs.Pins.{IsPinningOne};
 ghost use Rattle.stm_transactions.specs.Reads.{HasRead, HasReadNone, StopsRead};
@@ -10,7 +10,7 @@ ghost use Rattle.stm_transactions.specs.Seats.{OutlastsReading, Stays};
 
 use crate::bad_lock::BadLock;
 use crate::lock_for::lock_for;
-use crate::looking::look_at;
+use crate::looking::{ForRead, look_at};
 use crate::pages::reach;
 use crate::pinned::Pinned;
 use core_table::event_table::Seat;
@@ -45,7 +45,7 @@ pub fn read_word<S, X, K, P: SlotRule<S, X, K>>(
 {
     let lock = lock_for(stm, at);
     let frame = reach(stm, seat, at / PAGE, pinned)?;
-    let look = match look_at(stm, seat, thread, *snapshot, lock, reads) {
+    let look = match look_at::<ForRead, S, X, K, P>(stm, seat, thread, *snapshot, lock, reads) {
         Ok(look) => look,
         Err(BadLock { lock, seen }) => return Err(Stop::Conflict { lock, seen }),
     };
