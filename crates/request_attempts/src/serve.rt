@@ -14,12 +14,16 @@ use crate::turns::Turns;
 use crate::unserved::Unserved;
 use core_table::stm::Stm;
 use std::hint::spin_loop;
+use std::thread::yield_now;
 use stm_transactions::box_rule::BoxRule;
 use stm_transactions::pass::Pass;
 use stm_transactions::rule::TransactionRule;
 use tatp_layout::Layout;
 use tatp_model::done::Done;
 use tatp_model::request::Request;
+
+/// How many tries are made before the processor is left to others.
+const SPINS: u64 = 64;
 
 // Whether a request was refused so often that it is given up. A turn that another thread has is a refusal too, and that
 // thread may have to wait for its medium.
@@ -36,6 +40,16 @@ fn is_drawn_out(room: u64, left: u64) -> bool
     ensures { MatchBool result (left + 64 ≤ room) (room < left + 64) }
 {
     room - left >= 64
+}
+
+// Lets others get on before the next try: at first for a moment, and later by the processor, which the thread with the turn may
+// need.
+fn give_way(attempt: u64) {
+    if attempt < SPINS {
+        spin_loop();
+    } else {
+        yield_now();
+    }
 }
 
 /// Serves a request: tries it until a try is good, or it drew 64 numbers in vain, or it was refused a million times.
@@ -73,12 +87,12 @@ pub fn serve_one<
     };
     let before = p.refused();
     let room = p.left();
-    for _ in 0..2_000_001u64 {
+    for attempt in 0..2_000_001u64 {
         match attempts.try_once(p, file, index, q) {
             Tried::Done(done) => return Ok(done),
             Tried::Device => return Err(Unserved::Device),
             Tried::NoMemory => return Err(Unserved::NoMemory),
-            Tried::Again => spin_loop(),
+            Tried::Again => give_way(attempt),
         }
         if is_drawn_out(room, p.left()) {
             return Err(Unserved::Refused);
