@@ -15,10 +15,11 @@
 #
 # The time is that of `drive` less that of `recover` on the same image, the median of five runs, or of N, each on an image
 # of its own, with the least and the greatest; where a run came out no slower than its recovery there is no figure. A round
-# takes each program and each size in turn. A sync is an fdatasync or its like: those are counted in a run of their own, of
-# all threads, since strace makes it slow. How many there are, and how many numbers have no request, differs from run to run
-# with the schedule of the threads: both are those of one run. What a load answers doesn't differ, as no two files of it share
-# a subscriber and no table gets full: programs and runs that don't all answer it alike are refused.
+# takes each program and each size in turn. A sync is an fdatasync or its like: those of all threads are counted
+# by perf in five runs of their own, or N, and the median is told, with the least and the greatest; where there is no perf in
+# one run by strace, which makes the threads slow. How many syncs there are, and how many numbers have no request, differs from
+# run to run with the schedule of the threads; the numbers are those of one run. What a load answers doesn't differ, as no two
+# files of it share a subscriber and no table gets full: programs and runs that don't all answer it alike are refused.
 set -euo pipefail
 shopt -s inherit_errexit
 top=$(cd "$(dirname "$0")/.." && pwd)
@@ -96,16 +97,22 @@ changes() { awk '$1 ~ /^(UPDATE|INSERT|DELETE)_/ { made += $3 } END { print made
 # How many numbers the last drive took: the last one told less the first one, that of the opening.
 numbers() { awk '$1 == "durable" { last = $2; if (!told++) first = $2 } END { print last - first }' "$room/told"; }
 
-# How many syncs a drive makes beyond those of a recovery, or nothing where they can't be counted.
+# How many syncs a drive makes beyond those of a recovery, in the middle of so many runs as there are rounds, or in one that
+# strace counts; nothing where they can't be counted. All of them stand in $room/syncs.
 fences() {
-  local key=$1 count=$2 files=$3 opening all
+  local key=$1 count=$2 files=$3 opening all turn
   local program=${programs[${key%.*}]}
   can_count || return 0
-  renew "$key"
-  opening=$(count_syncs "$room" "$program" "$room/tatp.img" recover)
-  all=$(count_syncs "$room" "$program" "$room/tatp.img" drive 1 "$count" "$files")
-  expect_whole "$count" "$files" "${key#*.}"
-  echo $((all - opening))
+  : > "$room/syncs"
+  for ((turn = 0; turn < rounds; turn++)); do
+    renew "$key"
+    opening=$(count_syncs "$room" "$program" "$room/tatp.img" recover)
+    all=$(count_syncs "$room" "$program" "$room/tatp.img" drive 1 "$count" "$files")
+    expect_whole "$count" "$files" "${key#*.}"
+    echo $((all - opening)) >> "$room/syncs"
+    perf_counts || break
+  done
+  median "$room/syncs"
 }
 
 # One round of a case, which is a program's index, a dot and a number of subscribers.
@@ -128,7 +135,7 @@ milliseconds() { awk -v micros="$1" 'BEGIN { printf "%.1f", micros / 1000 }'; }
 
 # Prints what the rounds of a case gave.
 tell() {
-  local key=$1 count=$2 files=$3 micros range syncs rate times_one= told="syncs not counted, for want of strace"
+  local key=$1 count=$2 files=$3 micros range syncs rate times_one= told="syncs not counted, for want of perf and strace"
   local name=${names[${key%.*}]}$beside subscribers=${key#*.}
   micros=$(median "$room/times.$key")
   sort -n -o "$room/times.$key" "$room/times.$key"
@@ -145,7 +152,9 @@ tell() {
   [ "$files" -eq 1 ] || [ -z "${one[$key.$count]-}" ] || times_one=" ($(ratio "$rate" "${one[$key.$count]}") of one file's)"
   syncs=$(fences "$key" "$count" "$files")
   if [ -n "$syncs" ]; then
-    told="$(ratio "$syncs" "${made[$key]}") syncs a change ($syncs of ${made[$key]}),"
+    sort -n -o "$room/syncs" "$room/syncs"
+    told="$(ratio "$syncs" "${made[$key]}") syncs a change ($syncs of ${made[$key]};"
+    told+=" $(sed -n 1p "$room/syncs") to $(sed -n '$p' "$room/syncs")),"
     told+=" $((syncs * 1000000 / micros)) syncs a second"
   fi
   echo "$(milliseconds "$micros") ms ($range) beyond a recovery, $rate requests a second$times_one, $told," \

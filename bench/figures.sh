@@ -60,15 +60,33 @@ median() { sort -n "$1" | sed -n "$(($(wc -l < "$1") / 2 + 1))p"; }
 # A number that divides another one, with three decimals; nothing where there are none.
 ratio() { awk -v above="$1" -v below="$2" 'BEGIN { if (above != "" && below > 0) printf "%.3f", above / below }'; }
 
+# Whether the kernel counts calls for perf. Threads are not slowed by that, as they are by strace.
+perf_counts() { perf stat -x , -o /dev/null -e syscalls:sys_enter_fdatasync true 2> /dev/null; }
+
 # Whether syncs can be counted.
-can_count() { command -v strace > /dev/null; }
+can_count() { command -v strace > /dev/null || perf_counts; }
+
+# How often a command syncs that opens no file so that each write is synced: its fdatasyncs, fsyncs and msyncs, by perf, else
+# by strace; nothing where both are missing. FOLDER takes its output, and the counts.
+count_syncs() {
+  local folder=$1 event events=()
+  if ! perf_counts; then
+    trace_syncs "$@"
+    return
+  fi
+  shift
+  for event in fdatasync fsync msync; do events+=(-e "syscalls:sys_enter_$event"); done
+  perf stat -x , -o "$folder/calls" "${events[@]}" -- "$@" > "$folder/out" 2> "$folder/told" ||
+    { cat "$folder/told" >&2; return 1; }
+  awk -F , '$3 ~ /^syscalls:/ { syncs += $1 } END { print syncs + 0 }' "$folder/calls"
+}
 
 # How often a command syncs, or nothing where strace is missing: its fdatasyncs, fsyncs and msyncs, and its writes to a file
 # that was opened so that each is synced. FOLDER takes its output, and the list of calls.
-count_syncs() {
+trace_syncs() {
   local folder=$1
   shift
-  can_count || return 0
+  command -v strace > /dev/null || return 0
   strace -f --seccomp-bpf -qq -e trace=openat,pwrite64,fdatasync,fsync,msync -e signal=none -o "$folder/calls" \
     "$@" > "$folder/out" 2> "$folder/told" || { cat "$folder/told" >&2; return 1; }
   awk '$2 ~ /^openat\(/ && /O_D?SYNC/ { synced["pwrite64(" $NF ","] = 1 }

@@ -90,8 +90,8 @@ tell() {
   IFS=$'\t' read -r name _ requests made < "$room/told.$store.$changes"
   micros=$(median "$room/times.$store.$changes")
   rate=$((requests * 1000000 / micros))
-  opening=$(run_store "$store" "$changes" /dev/null count_syncs "$room")
-  syncs=$(run_store "$store" "$changes" "$tools/requests" count_syncs "$room")
+  opening=$(run_store "$store" "$changes" /dev/null trace_syncs "$room")
+  syncs=$(run_store "$store" "$changes" "$tools/requests" trace_syncs "$room")
   [ -z "$syncs" ] || syncs=$((syncs - opening))
   [ -z "$syncs" ] || told=", $(ratio "$syncs" "$made") syncs a change ($syncs of $made)"
   [ "$changes" -eq 1 ] || commit="$changes changes a commit"
