@@ -4,7 +4,7 @@ ghost use Rattle.command_edges.specs.Command.{IsBetween};
 ghost use Rattle.dude_base.specs.Run.{IsRunWithin};
 ghost use Rattle.dude_base.specs.declared.limits.TheConstants.{MAX_LOCKS};
 ghost use Rattle.dude_program.specs.Work.{AllowsFrames, HasFrames};
-ghost use Rattle.std.specs.Prelude.{ℕ, Option, IfSome};
+ghost use Rattle.std.specs.Prelude.{Option, IfSome};
 
 use dude_base::limits::{DEFAULT_BOXES, DEFAULT_LOCKS};
 use dude_base::run::Run;

@@ -31,7 +31,6 @@ use Rattle.tiny_stm.specs.Started.{IsAtRest, terms_of}
 use Rattle.dude_recover.specs.declared.opened.Opened.{Opened}
 use Rattle.dude_recover.specs.Opened.{IsOpened}
 use Rattle.dude_engine.specs.declared.ran.Ran.{Ran}
-use Rattle.dude_engine.specs.declared.ran.RanEnd.{RanEnd}
 use Rattle.dude_engine.specs.declared.ran.RanEnd.TheVariants.{NoMemory}
 use Rattle.dude_engine.specs.Opening.{Opening as RunOpening, last_of}
 use Rattle.dude_engine.specs.Plain.{IsLastTold, IsOpeningOf, LosesFew, most_lost}

@@ -1,5 +1,5 @@
 -- What the last calls tell.
-use Rattle.std.proofs.Common.{◌≡◌, ℕ, ◌≤◌, IsTrue, List, [], ◌∷◌, ◌++◌, length, length-append, sym, ap, ◌∙◌, arith}
+use Rattle.std.proofs.Common.{◌≡◌, ℕ, ◌≤◌, IsTrue, List, [], ◌∷◌, ◌++◌, length, length-append, ap, ◌∙◌, arith}
 use Rattle.pmem_trait.specs.Sights.{Sight, SomeCalls, state_now}
 use Rattle.pmem_trait.proofs.Told.{calls_told}
 

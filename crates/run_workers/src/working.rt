@@ -45,8 +45,8 @@ impl<
 > Work<'a, S, X, K, P, T, G> {
     /// Serves the requests of a file in their order. Where one isn't served, that one and those behind it are left, and no
     /// further call is made. After every eighth request it takes a turn. Where the last file has no request, its worker takes turns
-    /// for the others, until all have ended. Replies are sent as the lane takes them, and at
-    /// the end the count of ended workers rises.
+    /// for the others, until all have ended. Replies are sent as the lane takes them, and at the end the count of ended workers
+    /// rises.
     pub fn work(&self, requests: &[Request], ended: &AtomicU64, job: &mut Job<X>)
         requires may { MayServeRequests self.now requests.now }
         requires fresh { IsNew self.now requests.now job.old }

@@ -1,6 +1,6 @@
 -- All passes of a run are held, whatever one of them does.
 use Rattle.std.proofs.Common.{◌≡◌, ℕ, ◌+◌, ◌-◌, ◌<◌, ◌≤◌, List, [], ◌∷◌, ◌++◌, get_or, length, length-append, append-nil, refl, sym, ap, ◌∙◌, subst, arith}
-use Rattle.std.specs.Prelude.{Option, Some, slice_set}
+use Rattle.std.specs.Prelude.{Option, Some}
 use Rattle.std.specs.List.{All}
 use Rattle.std.proofs.Math.ListN.{set}
 use Rattle.std.proofs.lemmas.List.{length-set}
@@ -8,7 +8,7 @@ use Rattle.std.proofs.lemmas.List.Elements.{All-get_or, All-nil, All-pop, All-pu
 use Rattle.core_events.specs.Events.{number, view_after}
 use Rattle.core_events.specs.Keyed.{one_if}
 use Rattle.core_events.specs.KeptThreads.{held_of}
-use Rattle.core_events.specs.Partings.{both_of, left_of, newcomer, thread_list}
+use Rattle.core_events.specs.Partings.{both_of, thread_list}
 use Rattle.core_events.specs.Telling.{HasAll}
 use Rattle.core_events.specs.Views.{Part, View}
 use Rattle.core_table.specs.Known.{Known}

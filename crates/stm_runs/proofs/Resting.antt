@@ -1,17 +1,14 @@
 -- The back of an image that was opened on a new medium is at rest.
-use Rattle.std.proofs.Common.{◌≡◌, ℕ, ◌*◌, ◌≤◌, ◌∙◌, List, [], length, drop, refl, sym, ap, subst, arith}
-use Rattle.std.specs.Prelude.{IsTrue}
+use Rattle.std.proofs.Common.{ℕ, ◌*◌, ◌∙◌, List, [], length, drop, sym, ap, subst}
 use Rattle.std.specs.List.{Contains}
 use Rattle.std.proofs.Math.Seq.{drop-nil}
-use Rattle.dude_base.specs.declared.sizes.Sizes.{Sizes}
 use Rattle.pmem_trait.specs.declared.medium.Medium.{Ghosts}
 use Rattle.pmem_trait.specs.Sights.{Sight, state_now}
-use Rattle.pmem_trait.specs.Words.{AtLeast, IsIn}
-use Rattle.redo_record.specs.Waiting.{Waiting}
+use Rattle.pmem_trait.specs.Words.{IsIn}
 use Rattle.back_store.proofs.EmptyLanes.{none_waiting}
 use Rattle.dude_base.specs.declared.limits.TheConstants.{PAGE}
 use Rattle.back_store.specs.Back.{BackState, home_now, idle, waiting_now}
-use Rattle.back_store.specs.BackView.{sight_of, state_of}
+use Rattle.back_store.specs.BackView.{sight_of}
 use Rattle.back_store.specs.Images.{HoldsStore}
 use Rattle.dude_recover.specs.Answers.{IsOpenedFrom}
 use Rattle.dude_recover.specs.Opened.{HasToldNoMore, IsOpened}

@@ -1,9 +1,9 @@
 -- What passes do leaves them at rest, and whose they were.
-use Rattle.std.proofs.Common.{◌≡◌, ℕ, refl, sym, ap, ◌∙◌, subst}
+use Rattle.std.proofs.Common.{◌≡◌, ℕ, refl, ap, ◌∙◌, subst}
 use Rattle.tatp_model.specs.declared.request.Request.{Request}
 use Rattle.tatp_model.specs.declared.reply.Reply.{Reply}
 use Rattle.tatp_model.specs.declared.done.Done.{Done}
-use Rattle.core_events.specs.Views.{Part, View}
+use Rattle.core_events.specs.Views.{View}
 use Rattle.core_table.specs.Layout.{TableSight}
 use Rattle.stm_transactions.specs.declared.lost.Lost.{Lost}
 use Rattle.stm_transactions.specs.Passes.{IsRefused, IsResting, PassSight, pass_view}
@@ -12,7 +12,6 @@ use Rattle.stm_transactions.specs.declared.transaction_lists.TransactionLists.{G
 use Rattle.stm_transactions.specs.Ends.{HasAborted, HasCommitted, HasLostCommit}
 use Rattle.stm_transactions.specs.Transactions.{HasBegun, TurnsInto, tx_numbers, tx_table, tx_view}
 use Rattle.tiny_stm.specs.Turned.{KeepsWork}
-use Rattle.stm_transactions.specs.declared.pass_numbers.PassNumbers.{PassNumbers}
 use Rattle.stm_runs.specs.Kept.{StaysWith}
 
 module _ {X K : Type 0} (t : TableSight K) (p q : PassSight X) where

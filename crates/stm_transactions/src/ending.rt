@@ -1,7 +1,7 @@
 //! A transaction ends: with its entry, or without one.
 
 ghost use Rattle.core_table.specs.Steps.{BelongsTo};
-ghost use Rattle.std.specs.Prelude.{◌≡◌, ◌<◌, [], length, IfOk, IfErr, OnErr};
+ghost use Rattle.std.specs.Prelude.{◌≡◌, ◌<◌, length, IfOk, IfErr, OnErr};
 ghost use Rattle.stm_transactions.specs.CommitEnds.{AsLost, Enters, HasEnded, IsLostBy, IsPinStop, OnlyUndoes};
 ghost use Rattle.stm_transactions.specs.CommitRule.{OutlastsEnding};
 ghost use Rattle.stm_transactions.specs.Draws.{RunsPinned};

@@ -30,7 +30,7 @@ impl<X> Model for Pass<X> {
 }
 
 impl<X> Pass<X> {
-    ghost use Rattle.std.specs.Prelude.{◌≡◌, [], ◌∷◌};
+    ghost use Rattle.std.specs.Prelude.{◌≡◌, []};
     ghost use Rattle.stm_transactions.specs.Passes.{GivesSeat, HasSeat, is_given};
 
     /// A pass of this seat, with these lists and numbers.

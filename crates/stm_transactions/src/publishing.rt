@@ -1,11 +1,8 @@
 //! A number is drawn for the writes, and decided or void.
 
 ghost use Rattle.core_events.specs.Events.{draw};
-ghost use Rattle.core_events.specs.Keyed.{find};
-ghost use Rattle.core_events.specs.Setups.{page_of};
 ghost use Rattle.core_table.specs.Steps.{BelongsTo};
-ghost use Rattle.dude_base.specs.Writes.{IsWriteList};
-ghost use Rattle.std.specs.Prelude.{◌≡◌, ◌<◌, ◌≤◌, ◌∷◌, ◌++◌, [], length, All, is_some, true, IfOk, IfErr};
+ghost use Rattle.std.specs.Prelude.{◌≡◌, ◌<◌, length, IfOk, IfErr};
 ghost use Rattle.stm_transactions.specs.CommitEnds.{Enters, IsLostBy};
 ghost use Rattle.stm_transactions.specs.CommitRule.{OutlastsEnding};
 ghost use Rattle.stm_transactions.specs.Draws.{RunsPaged};

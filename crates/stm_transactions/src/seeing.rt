@@ -1,6 +1,6 @@
 //! A pass looks at its next box.
 
-ghost use Rattle.std.specs.Prelude.{◌≡◌, IfErr, OnOk};
+ghost use Rattle.std.specs.Prelude.{IfErr, OnOk};
 ghost use Rattle.stm_transactions.specs.Passes.{FindsEmpty, IsRefused, IsResting, OutlastsPasses};
 
 use crate::box_full::BoxFull;

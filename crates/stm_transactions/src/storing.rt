@@ -1,8 +1,5 @@
 //! The steps of a commit on each word, lock or page in turn.
-
-ghost use Rattle.core_events.specs.Keyed.{has};
 ghost use Rattle.core_table.specs.Steps.{BelongsTo};
-ghost use Rattle.std.specs.Prelude.{◌≡◌, [], All, true};
 ghost use Rattle.stm_transactions.specs.CommitRule.{OutlastsEnding};
 ghost use Rattle.stm_transactions.specs.Seats.{Stays};
 ghost use Rattle.stm_transactions.specs.Settles.{AreStored, AreTouched, IsLeaving, IsReleasing, IsStoring, IsTouching, IsUndone, OnlyGivesLocks, OnlyStores, OnlyTakesPins, OnlyTouches};

@@ -1,7 +1,7 @@
 //! The reads are checked once more, behind the draw.
 
 ghost use Rattle.core_table.specs.Steps.{BelongsTo};
-ghost use Rattle.std.specs.Prelude.{◌≡◌, OnOk, IfErr};
+ghost use Rattle.std.specs.Prelude.{OnOk, IfErr};
 ghost use Rattle.stm_transactions.specs.CommitRule.{OutlastsEnding};
 ghost use Rattle.stm_transactions.specs.Draws.{HasChecked, HasVoided, IsChecking};
 ghost use Rattle.stm_transactions.specs.Seats.{Stays};

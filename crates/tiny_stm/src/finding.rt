@@ -1,7 +1,7 @@
 //! A frame is found for a page that is absent.
 
 ghost use Rattle.shadow_pages.specs.PageMap.{HasFree, IsFree};
-ghost use Rattle.std.specs.Prelude.{◌≡◌, IfErr, IfOk};
+ghost use Rattle.std.specs.Prelude.{IfErr, IfOk};
 ghost use Rattle.tiny_stm.specs.Frames.{FoundPinned, KeepsAllPinned, MadeRoom, MayMakeRoom};
 
 use crate::entries::{evict, see_entry};

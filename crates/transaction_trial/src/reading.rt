@@ -1,7 +1,6 @@
 //! Two passes, each in a thread of its own, read all words of new tables.
 
 ghost use Rattle.stm_transactions.specs.Passes.{IsResting};
-ghost use Rattle.word_space.specs.Steps.{WordsGoOn};
 
 use crate::place::{Place, open_place};
 use dude_base::limits::DEFAULT_LOCKS;

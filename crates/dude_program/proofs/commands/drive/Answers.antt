@@ -1,4 +1,4 @@
-use Rattle.std.proofs.Common.{◌≡◌, ◌∙◌, arith, length, refl, ap, inr}
+use Rattle.std.proofs.Common.{◌≡◌, arith, length, refl, inr}
 use Rattle.back_store.specs.BackView.{medium_of}
 use Rattle.command_edges.specs.Command.{Meaning.DriveLoad}
 use Rattle.tatp_model.specs.Files.{requests_in}

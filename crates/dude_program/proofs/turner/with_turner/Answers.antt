@@ -1,6 +1,5 @@
-use Rattle.std.proofs.Common.{◌≡◌, ◌<◌, Bool, true, false, List, [], ◌∷◌, ◌++◌, length, if◌then◌else◌, inl, inr, arith, Vec, Global}
+use Rattle.std.proofs.Common.{◌≡◌, ◌<◌, Bool, true, false, [], ◌∷◌, ◌++◌, length, if◌then◌else◌, inl, inr, arith}
 use Rattle.std.specs.Prelude.{is_ok}
-use Rattle.tatp_model.specs.declared.request.Request.{Request}
 use Rattle.dude_program.specs.Turner.{HasTurner}
 use Rattle.dude_program.proofs.turner.with_turner.Goals as goal
 

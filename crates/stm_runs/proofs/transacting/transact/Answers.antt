@@ -1,10 +1,9 @@
-use Rattle.std.proofs.Common.{◌≡◌, ℕ, sym, ap, ◌∙◌, subst, arith}
+use Rattle.std.proofs.Common.{◌≡◌, sym, ap, ◌∙◌, subst, arith}
 use Rattle.core_table.specs.Layout.{TableSight}
 use Rattle.stm_transactions.specs.Passes.{PassSight}
 use Rattle.stm_transactions.specs.declared.pass_numbers.PassNumbers.{PassNumbers}
 use Rattle.stm_transactions.specs.Transactions.{turns_begin}
 use Rattle.stm_transactions.specs.Ends.{HasAborted, HasCommitted, HasLostCommit}
-use Rattle.tiny_stm.specs.Tables.{table_of}
 use Rattle.stm_runs.specs.Kept.{StaysWith}
 use Rattle.stm_runs.proofs.Transactions.{aborted, committed, lost, numbers}
 use Rattle.stm_runs.proofs.transacting.transact.Goals as goal

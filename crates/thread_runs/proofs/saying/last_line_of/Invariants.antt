@@ -1,4 +1,3 @@
-use Rattle.std.proofs.Common.{◌≡◌, ℕ}
 use denote.Text.{Utf8}
 use denote.Shadow.{shadow}
 use Rattle.thread_runs.proofs.saying.last_line_of.Given as goal

@@ -1,4 +1,4 @@
-use Rattle.std.proofs.Common.{List, [], sym, subst}
+use Rattle.std.proofs.Common.{List, sym, subst}
 use Rattle.stm_transactions.specs.Passes.{PassSight}
 use Rattle.tiny_stm.specs.Tables.{table_of}
 use Rattle.stm_runs.specs.Kept.{AreHeld}
