@@ -132,7 +132,7 @@ MIX = [0, 1, 2, 3, 3, 4, 4, 4, 5, 5, 5, 6, 7, 7]
 WRITES = {"UPDATE_SUBSCRIBER_DATA", "UPDATE_LOCATION", "INSERT_CALL_FORWARDING", "DELETE_CALL_FORWARDING"}
 # What is counted: the function whose calls it is, and a caller whose calls are no such thing.
 COUNTED = {
-    "pages brought in": ("known_back::read_page", "run_threads::"),
+    "pages brought in": ("stm_slots::known_back::read_page", "run_threads::"),
     "calls that put a page out": ("tiny_stm::entries::evict", None),
     "runs with files set aside": ("dude_engine::one_thread::plain", None),
 }
