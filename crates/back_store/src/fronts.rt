@@ -1,7 +1,7 @@
 //! How far each lane is taken.
 
 ghost use Rattle.back_store.specs.Fronts.{AreFronts, HasNext, NoneHas};
-ghost use Rattle.std.specs.Prelude.{◌≡◌, ℕ, ◌+◌, ◌^◌, ◌<◌, ◌≤◌, length, IfSome, IfNone};
+ghost use Rattle.std.specs.Prelude.{◌≡◌, ◌+◌, ◌^◌, ◌<◌, ◌≤◌, length, IfSome, IfNone};
 
 use crate::lane::Lane;
 use dude_base::limits::MAX_RINGS;

@@ -3,9 +3,7 @@
 ghost use Rattle.back_store.specs.HomeGroup.{AreLedWrites};
 ghost use Rattle.back_store.specs.Lane.{AreDistinctAt, HasRoomAt, TakesThoseAt};
 ghost use Rattle.back_store.specs.Lanes.{AreLanes, AreLed, waiting_of};
-ghost use Rattle.dude_base.specs.Sizes.{IsAccepted};
 ghost use Rattle.dude_base.specs.declared.limits.TheConstants.{MAX_NUMBER};
-ghost use Rattle.dude_base.specs.declared.sizes.Sizes.{Sizes};
 ghost use Rattle.redo_record.specs.Waiting.{IsContiguousEnd, IsEnd};
 ghost use Rattle.std.specs.Prelude.{◌≡◌, ℕ, ◌*◌, ◌<◌, ◌≤◌, length};
 

@@ -4,7 +4,7 @@ ghost use Rattle.command_edges.specs.CommandFile.{audit_files};
 ghost use Rattle.command_edges.specs.Files.{IsFileFault, MissingStops};
 ghost use Rattle.command_edges.specs.PrintedRun.{AreOfRun};
 ghost use Rattle.command_edges.specs.Reads.{ReadsInOrder};
-ghost use Rattle.std.specs.Prelude.{◌≡◌, map, OnOk, IfOk, IfErr};
+ghost use Rattle.std.specs.Prelude.{map, IfOk, IfErr};
 ghost use Rattle.std.specs.Result.{result_err};
 
 use crate::fault::Fault;

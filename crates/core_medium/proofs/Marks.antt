@@ -13,7 +13,7 @@ use Rattle.core_events.specs.Events.{Event, take_turn, raise_reproduced, evict, 
 use Rattle.core_events.specs.Partings.{event, parting, joining}
 use Rattle.core_medium.specs.Stores.{Store}
 use Rattle.core_medium.specs.BackCalls.{BackCall, persisting, announcing, reproducing, reading, MayCall, device_after}
-use Rattle.core_medium.specs.Machines.{Machine, MachineLeads, MachineStep, on_words, device, store_after}
+use Rattle.core_medium.specs.Machines.{Machine, on_words, device, store_after}
 use Rattle.core_medium.specs.MachineLaws.{LawOfMarks}
 
 -- the mark is where it was, or at the last number of a bundle that waited

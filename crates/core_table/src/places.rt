@@ -3,7 +3,6 @@
 ghost use Rattle.core_events.specs.Setups.{cell_of, box_of};
 ghost use Rattle.core_events.specs.Views.{the_lock, the_entry, the_touch, the_cell, the_box};
 ghost use Rattle.core_table.specs.Places.{index};
-ghost use Rattle.dude_base.specs.declared.limits.TheConstants.{PAGE as PAGE_WORDS};
 ghost use Rattle.std.specs.Prelude.{◌≡◌, ◌*◌, ◌<◌};
 
 use crate::event_table::EventTable;

@@ -1,7 +1,7 @@
 //! All lines.
 
 ghost use Rattle.dude_audit.specs.Reading.{IsReading};
-ghost use Rattle.std.specs.Prelude.{◌≡◌, IfOk};
+ghost use Rattle.std.specs.Prelude.{IfOk};
 
 use crate::claim::Claim;
 use crate::last::read_last;

@@ -2,7 +2,7 @@
 
 ghost use Rattle.dude_base.specs.Home.{in_whole_lines, index_length, pages_for, table_words, tables_length};
 ghost use Rattle.dude_base.specs.Sizes.{AreTheSizes, CountsAreWithin, IsAccepted, IsFaultOf, IsFaultOfCounts, IsFrom, indexed_sizes, sizes_for, sizes_with};
-ghost use Rattle.std.specs.Prelude.{◌≡◌, ◌<◌, ◌≤◌, ◌+◌, ◌*◌, ◌^◌, ℕ, IfOk, IfErr, OnOk};
+ghost use Rattle.std.specs.Prelude.{◌≡◌, ◌<◌, ◌≤◌, ◌+◌, ◌*◌, ◌^◌, IfOk, IfErr, OnOk};
 
 use crate::field::Field;
 use crate::limits::{

@@ -1,13 +1,12 @@
 //! Which records in boxes a call on the medium persists together.
 
 ghost use Rattle.dude_base.specs.Records.{HasNumbers};
-ghost use Rattle.dude_base.specs.declared.limits.TheConstants.{MAX_NUMBER};
 ghost use Rattle.dude_core.specs.Gathers.{Gathers, GathersNo, Persists, PersistsNone};
 ghost use Rattle.dude_core.specs.Gathers.{number_in, IsLeastOf, IsLower, Joins, IsLonger};
 ghost use Rattle.dude_core.specs.Named.{Tells};
 ghost use Rattle.dude_core.specs.NextCalls.{AppendsOn, AppendsNone};
 ghost use Rattle.dude_core.specs.StateSteps.{IsKeptOver};
-ghost use Rattle.std.specs.Prelude.{◌≡◌, ◌≢◌, ◌+◌, ◌<◌, ◌≤◌, ℕ, IfSome, IfNone, length, slice_index};
+ghost use Rattle.std.specs.Prelude.{◌≡◌, ◌≢◌, ◌+◌, ◌<◌, ℕ, IfSome, IfNone, length, slice_index};
 
 use crate::fit::ends_by;
 use crate::gathered::Gathered;

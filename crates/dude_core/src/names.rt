@@ -1,7 +1,7 @@
 //! Which word an event of a view is a step on.
 
 ghost use Rattle.core_events.specs.Conditions.{May};
-ghost use Rattle.core_events.specs.Events.{name, pinned_frame, next_box, thread_of, first_lock};
+ghost use Rattle.core_events.specs.Events.{name, pinned_frame, next_box};
 ghost use Rattle.core_events.specs.Setups.{page_of, cell_of};
 ghost use Rattle.core_events.specs.Telling.{IsSeated};
 ghost use Rattle.dude_core.specs.Named.{word_of, event_of, of_read, of_write, of_turn, of_page};

@@ -2,9 +2,8 @@
 
 ghost use Rattle.core_events.specs.Conditions.{IsIdle, IsUndrawn, IsSteady, IsUndecided, HasThread, LooksGood, LooksUnowned, Owns, Pins, Writes, KeepsFrame};
 ghost use Rattle.core_events.specs.Events.{is_good, looked_word, thread_of, next_box, pinned_frame, kept_entry};
-ghost use Rattle.core_events.specs.Keyed.{find, or_else};
+ghost use Rattle.core_events.specs.Keyed.{find};
 ghost use Rattle.core_events.specs.Setups.{without_pins};
-ghost use Rattle.dude_base.specs.Writes.{written};
 ghost use Rattle.dude_core.specs.Named.{Tells};
 ghost use Rattle.dude_core.specs.Turns.{HasTurn};
 ghost use Rattle.std.specs.Prelude.{◌≡◌, ◌==◌, ◌*◌, ◌<◌, ◌≤◌, ℕ, false, Some};

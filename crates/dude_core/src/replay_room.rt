@@ -3,7 +3,7 @@
 ghost use Rattle.dude_core.specs.Chains.{CanChain};
 ghost use Rattle.dude_core.specs.ReplayRooms.{BringsOn};
 ghost use Rattle.redo_record.specs.Waiting.{IsEnd};
-ghost use Rattle.std.specs.Prelude.{◌≡◌, ◌^◌, ◌<◌, ◌≤◌, [], IfOk, MatchBool, length, vec_len};
+ghost use Rattle.std.specs.Prelude.{◌≡◌, ◌^◌, ◌<◌, ◌≤◌, [], IfOk, MatchBool, length};
 ghost use Rattle.std.specs.Vec.{vec_capacity};
 
 use crate::chain_writes::take_chain;

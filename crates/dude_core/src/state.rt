@@ -2,7 +2,7 @@
 
 ghost use Rattle.core_events.specs.Words.{found, put};
 ghost use Rattle.dude_core.specs.Named.{word_of};
-ghost use Rattle.std.specs.Prelude.{◌≡◌, slice_index_or};
+ghost use Rattle.std.specs.Prelude.{◌≡◌};
 
 use crate::view::View;
 use crate::word::Word;

@@ -3,7 +3,7 @@
 ghost use Rattle.core_events.specs.Setups.{IsSetup};
 ghost use Rattle.dude_base.specs.declared.limits.TheConstants.{PAGE as PAGE_WORDS};
 ghost use Rattle.dude_core.specs.StoreData.{no_ring, start_data};
-ghost use Rattle.std.specs.Prelude.{◌≡◌, ◌*◌, ◌≤◌, length, replicate, IfOk};
+ghost use Rattle.std.specs.Prelude.{◌≡◌, ◌*◌, length, replicate, IfOk};
 
 use crate::numbers::Numbers;
 use crate::pairs::Pairs;

@@ -3,7 +3,6 @@
 ghost use Rattle.core_events.specs.Conditions.{May};
 ghost use Rattle.core_events.specs.Events.{see_box, post, take_turn, give_turn, see_full, empty_box, raise_durable, raise_reproduced};
 ghost use Rattle.dude_core.specs.Named.{Tells, of_turn};
-ghost use Rattle.std.specs.Prelude.{◌≡◌};
 
 use crate::deed::TurnDeed;
 use crate::setup::Setup;

@@ -5,7 +5,7 @@ ghost use Rattle.core_events.specs.Keyed.{one_if};
 ghost use Rattle.core_events.specs.Partings.{newcomer, spent, left_of, both_parts, both_turns, both_of};
 ghost use Rattle.dude_core.specs.Named.{Tells};
 ghost use Rattle.dude_core.specs.Partings.{HasLeft, IsDone, ended_in};
-ghost use Rattle.std.specs.Prelude.{◌≡◌, ◌+◌, ◌-◌, ◌<◌, ◌≤◌, ◌^◌, ◌++◌, false, OnOk, OnErr, IfOk};
+ghost use Rattle.std.specs.Prelude.{◌≡◌, ◌+◌, ◌-◌, ◌<◌, ◌^◌, false, OnOk, OnErr, IfOk};
 
 use crate::about::About;
 use crate::boxes::Boxes;

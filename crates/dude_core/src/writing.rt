@@ -3,7 +3,6 @@
 ghost use Rattle.core_events.specs.Conditions.{May};
 ghost use Rattle.core_events.specs.Events.{take, draw, decide, name};
 ghost use Rattle.core_events.specs.Telling.{WordTold};
-ghost use Rattle.dude_base.specs.declared.limits.TheConstants.{MAX_NUMBER};
 ghost use Rattle.dude_core.specs.Moves.{Advances};
 ghost use Rattle.dude_core.specs.Named.{word_of, of_write};
 ghost use Rattle.std.specs.Prelude.{◌≡◌, ◌<◌, ◌-◌, ◌^◌};

@@ -1,6 +1,5 @@
 -- The bundles that a run keeps, from request to request.
-use Rattle.std.proofs.Common.{◌≡◌, ℕ, ◌+◌, ◌-◌, ◌≤◌, true, false, IsTrue, List, [], ◌∷◌, ◌++◌, None, get_or, Result, Ok, Err, refl, sym, ap, ◌∙◌, subst, arith}
-use Rattle.std.specs.Prelude.{OnOk}
+use Rattle.std.proofs.Common.{◌≡◌, ℕ, ◌-◌, ◌≤◌, List, [], ◌∷◌, None, get_or, Result, Ok, Err, refl, sym, ap, ◌∙◌, subst, arith}
 use Rattle.dude_base.specs.declared.sizes.Sizes.{Sizes}
 use Rattle.dude_base.specs.Records.{RedoBundle}
 use Rattle.dude_base.specs.Image.{image_words}
@@ -12,10 +11,9 @@ use Rattle.redo_record.proofs.WaitingRecords.{consecutive_up}
 use Rattle.tatp_model.specs.declared.done.Done.{Done}
 use Rattle.tatp_layout.specs.StandsFor.{StandsFor}
 use Rattle.word_space.specs.Flats.{words_of}
-use Rattle.dude_recover.specs.Opened.{HoldsOpened}
 use Rattle.log_numbered.specs.declared.kept_bundles.KeptBundles.{KeptBundles}
 use Rattle.log_numbered.specs.declared.run_log.RunLog.{RunLog}
-use Rattle.log_numbered.specs.Arrays.{RunArrays, RecoversIn, array_at, last_number}
+use Rattle.log_numbered.specs.Arrays.{RunArrays, RecoversIn, array_at}
 use Rattle.log_numbered.specs.KeptBundles.{LeadThrough, are_kept, kept_bundles}
 use Rattle.log_numbered.specs.Keeping.{ClosesRun, EndsFrom, KeepsAll}
 use Rattle.log_numbered.specs.RunLog.{IsAlive, OpenLeads, log_end, log_last, log_medium, log_open, log_sizes}
@@ -26,7 +24,7 @@ use Rattle.dude_engine.specs.declared.run_fault.RunFault.TheVariants.{Device, No
 use Rattle.dude_engine.specs.Opening.{Opening}
 use Rattle.dude_engine.specs.Shipping.{RecoversOver}
 use Rattle.dude_engine.specs.Keeping.{EndsOver, KeepsBy, KeepsFailed, KeepsRun, LeavesKept}
-use Rattle.dude_engine.specs.Running.{HasArrays, IsRunning, LeavesOn, LeavesRun, Runs, run_sight}
+use Rattle.dude_engine.specs.Running.{HasArrays, IsRunning, LeavesRun, Runs, run_sight}
 use Rattle.dude_engine.proofs.Arrays.{arrays_start, images_rest}
 use Rattle.dude_engine.proofs.Serving.{serves_from}
 use Rattle.dude_engine.proofs.Steps.{runs_same, visible_on}

@@ -1,5 +1,5 @@
 -- The packets of a run, along the printed order of what was done.
-use Rattle.std.proofs.Common.{◌≡◌, ℕ, ◌≤◌, IsTrue, List, take, Result, Ok, Err, sym, ap, ◌∙◌, subst, arith}
+use Rattle.std.proofs.Common.{◌≡◌, ℕ, ◌≤◌, List, take, Result, Ok, Err, sym, ap, ◌∙◌, subst, arith}
 use Rattle.std.specs.List.{AllPairs}
 use Rattle.std.specs.Prelude.{IsPermutation, OnOk}
 use Rattle.dude_base.specs.declared.sizes.Sizes.{Sizes}

@@ -1,5 +1,5 @@
 -- What the end of a run says of all that was done, in the order of files and in the printed order.
-use Rattle.std.proofs.Common.{◌≡◌, ◌↔◌, ℕ, ◌+◌, ◌≤◌, Bool, true, false, not, IsTrue, List, [], ◌∷◌, Result, Ok, Err, refl, sym, ap, ◌∙◌, subst, arith, ⊎_elim}
+use Rattle.std.proofs.Common.{◌≡◌, ◌↔◌, ℕ, ◌≤◌, Bool, true, false, not, IsTrue, List, [], ◌∷◌, Result, Ok, Err, refl, sym, ap, ◌∙◌, subst, arith, ⊎_elim}
 use Rattle.std.specs.List.{All, AllPairs, filter}
 use Rattle.std.specs.Prelude.{IsPermutation, OnOk}
 use Rattle.std.proofs.lemmas.Bool.{cases_Bool, both_ways}

@@ -8,7 +8,6 @@ use Rattle.dude_base.specs.declared.write.Write.{Write}
 use Rattle.dude_base.specs.Writes.{overwritten}
 use Rattle.dude_base.specs.Image.{image_words}
 use Rattle.pmem_trait.specs.declared.medium.Medium.{Ghosts}
-use Rattle.pmem_trait.specs.Words.{IsImage}
 use Rattle.pmem_trait.specs.Sights.{AtEveryMoment, Sight, state_now, SomeCalls}
 use Rattle.pmem_trait.proofs.Laws.{every_moment_here, every_moment_weaker}
 use Rattle.pmem_trait.proofs.Runs.{made_later, ran_here, ran_then, risen_later}
@@ -24,7 +23,7 @@ use Rattle.tatp_core.specs.Serves.{Serves}
 use Rattle.word_space.specs.Flats.{words_of, flat_sight, fresh}
 use Rattle.dude_recover.specs.Opened.{HoldsOpened}
 use Rattle.log_numbered.specs.declared.run_log.RunLog.{RunLog}
-use Rattle.log_numbered.specs.Arrays.{RunArrays, RecoversIn, array_at, last_number, with_writes}
+use Rattle.log_numbered.specs.Arrays.{RunArrays, RecoversIn, array_at, with_writes}
 use Rattle.back_store.specs.Told.{WereTold}
 use Rattle.back_store.proofs.ToldNumbers.{tells_none, tells_then}
 use Rattle.log_numbered.specs.Backs.{LogGoesOn}

@@ -4,7 +4,7 @@ ghost use Rattle.dude_base.specs.Records.{RedoBundle, first_of};
 ghost use Rattle.dude_follow.specs.Packets.{Share};
 ghost use Rattle.dude_follow.specs.declared.reorder_buffer.TheConstants.{MAX_KEPT};
 ghost use Rattle.std.specs.List.{Contains};
-ghost use Rattle.std.specs.Prelude.{◌≡◌, ◌≢◌, ◌<◌, ◌≤◌, ◌+◌, ◌↔◌, ℕ, [], ◌∷◌, ◌++◌, length, All, IsTrue, IfOk, IfSome, IfNone, filter, nat_lt, slice_index_or, vec_len, vec_capacity};
+ghost use Rattle.std.specs.Prelude.{◌≡◌, ◌≢◌, ◌<◌, ◌≤◌, ◌+◌, ◌↔◌, [], ◌∷◌, ◌++◌, length, All, IsTrue, IfOk, IfSome, IfNone, filter, nat_lt, slice_index_or, vec_len, vec_capacity};
 
 use crate::verdict::Verdict;
 use dude_base::bundle::Bundle;

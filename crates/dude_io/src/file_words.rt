@@ -1,9 +1,8 @@
 //! The words of a file, of which the last ones may be 0 without being stored.
 
 ghost use Rattle.dude_io.specs.Bytes.{words_in};
-ghost use Rattle.std.specs.Int.{w64, from_le_bytes};
-ghost use Rattle.std.specs.Prelude.{◌≡◌, ◌/◌, ◌++◌, ◌+◌, ◌^◌, ◌<◌, ◌≤◌, IsTrue, length, map, replicate, vec_len, vec_capacity};
-ghost use Rattle.std.specs.Simd.{first_chunks};
+ghost use Rattle.std.specs.Int.{from_le_bytes};
+ghost use Rattle.std.specs.Prelude.{◌≡◌, ◌/◌, ◌++◌, ◌+◌, ◌^◌, ◌<◌, ◌≤◌, IsTrue, length, replicate, vec_len, vec_capacity};
 
 use crate::line::{Line, WORDS};
 use std::alloc::{AllocError, Global};

@@ -18,8 +18,8 @@ pub struct Line {
 
 impl Line {
     ghost use Rattle.dude_io.specs.Line.{IsLineOf, line_bytes};
-    ghost use Rattle.std.specs.Int.{w64, to_le_bytes};
-    ghost use Rattle.std.specs.Prelude.{◌≡◌, ◌+◌, ◌*◌, ◌^◌, ◌<◌, ◌≤◌, length, flat_map};
+    ghost use Rattle.std.specs.Int.{to_le_bytes};
+    ghost use Rattle.std.specs.Prelude.{◌≡◌, ◌+◌, ◌*◌, ◌^◌, ◌<◌, ◌≤◌, length};
 
     /// The line of this number.
     pub(crate) fn of(words: &[u64], number: u64) -> Line

@@ -1,6 +1,6 @@
 //! What a worker has sent into its lane of what it has done.
 
-ghost use Rattle.std.specs.Prelude.{◌≤◌, length};
+ghost use Rattle.std.specs.Prelude.{◌≤◌};
 
 use crate::feed::Feed;
 use tatp_model::Done;

@@ -3,8 +3,6 @@
 ghost use Rattle.hash_table.specs.Table.{FitsTable};
 ghost use Rattle.home_runs.specs.Stoppings.{stopping_sight};
 ghost use Rattle.home_runs.specs.declared.calls.TheConstants.{TABLE};
-ghost use Rattle.home_runs.specs.declared.trees.TheConstants.{TREE};
-ghost use Rattle.tree_index.specs.Tree.{FitsTree};
 
 use crate::page::Page;
 use crate::stopping::Stopping;

@@ -2,7 +2,7 @@
 
 ghost use Rattle.home_runs.specs.Stoppings.{stopping_sight};
 ghost use Rattle.home_runs.specs.declared.trees.TheConstants.{TREE};
-ghost use Rattle.std.specs.Prelude.{◌≡◌, ◌+◌, ◌*◌, ◌≤◌};
+ghost use Rattle.std.specs.Prelude.{◌+◌, ◌*◌, ◌≤◌};
 ghost use Rattle.tree_index.specs.Tree.{FitsTree};
 ghost use Rattle.word_space.specs.Flats.{flat_sight};
 

@@ -1,7 +1,7 @@
 //! The bundles that a log persisted, for those who want them.
 
 ghost use Rattle.log_numbered.specs.KeptBundles.{HasRoomToKeep, are_kept, bundles_with, kept_bundles};
-ghost use Rattle.std.specs.Prelude.{◌≡◌, ◌<◌, [], IsTrue, OnOk, false, true, vec_capacity, vec_len};
+ghost use Rattle.std.specs.Prelude.{◌≡◌, ◌<◌, [], OnOk, false, true};
 
 use dude_base::bundle::Bundle;
 use std::alloc::{AllocError, Global};

@@ -21,7 +21,7 @@ pub struct ScanState {
 impl ScanState {
     ghost use Rattle.log_ring.specs.Scanning.{AreAllHeads, AreKept, HoldsOneMore, MeetsKept, MissesKept, TakesHead};
     ghost use Rattle.log_ring.specs.declared.scan_fault.ScanFault.TheVariants.{Damaged, Device};
-    ghost use Rattle.std.specs.Prelude.{◌≡◌, ◌≢◌, ℕ, ◌+◌, ◌≤◌, [], true, false, Some, None, IfOk, IfErr, OnOk, IsErrOf};
+    ghost use Rattle.std.specs.Prelude.{◌≡◌, ◌≢◌, ℕ, [], true, false, Some, None, IfOk, IfErr, OnOk, IsErrOf};
 
     /// Nothing was found yet.
     pub fn new(alloc: Global) -> ScanState

@@ -2,7 +2,7 @@
 
 ghost use Rattle.pmem_trait.specs.Sights.{Sight, OneCall, ReadGives};
 ghost use Rattle.pmem_trait.specs.declared.call.Call.TheVariants.{Read, Put, Flush, Fence, Tell};
-ghost use Rattle.std.specs.Prelude.{◌≡◌, ℕ, ◌+◌, ◌*◌, ◌^◌, ◌<◌, ◌≤◌, is_ok, IfOk};
+ghost use Rattle.std.specs.Prelude.{◌≡◌, ◌+◌, ◌*◌, ◌^◌, ◌<◌, ◌≤◌, is_ok, IfOk};
 
 use crate::failed::Failed;
 

@@ -2,7 +2,7 @@
 
 ghost use Rattle.pmem_trait.specs.MediumLaws.{LawOfCalls, LawOfGroups, LawOfSettling, LawOfHalfDone, LawOfListing};
 ghost use Rattle.pmem_trait.specs.Reads.{LawOfReads};
-ghost use Rattle.std.specs.Prelude.{ℕ, Bool, List};
+ghost use Rattle.std.specs.Prelude.{ℕ, List};
 
 use std::marker::Brand;
 

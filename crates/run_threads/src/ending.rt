@@ -11,7 +11,6 @@ ghost use Rattle.std.specs.Prelude.{◌≡◌, ◌≢◌, ◌≤◌, length, map
 use crate::persist_rest;
 use crate::rests::run_rests;
 use crate::served::Served;
-use back_store::Back;
 use dude_engine::{Ran, RanEnd};
 use pmem_trait::{Failed, Medium};
 use run_workers::work_end::WorkEnd;

@@ -7,7 +7,7 @@ ghost use Rattle.stm_transactions.specs.Passes.{IsResting, pass_view};
 ghost use Rattle.tiny_stm.specs.Tables.{table_of};
 
 use crate::acting::act_by;
-use crate::moves::{Access, Act, Move};
+use crate::moves::{Act, Move};
 use crate::outcome::{Answer, Ended, Outcome};
 use crate::settings::Settings;
 use crate::transacting::{Around, transact_around};

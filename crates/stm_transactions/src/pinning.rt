@@ -1,7 +1,6 @@
 //! The pages of written words are pinned.
 
 ghost use Rattle.core_table.specs.Steps.{BelongsTo};
-ghost use Rattle.dude_base.specs.Writes.{written};
 ghost use Rattle.dude_base.specs.declared.limits.TheConstants.{MAX_WRITES as MOST, PAGE as PAGE_WORDS};
 ghost use Rattle.std.specs.Prelude.{◌≡◌, ◌<◌, ◌*◌, [], length, All, IfErr, OnOk, OnErr};
 ghost use Rattle.stm_transactions.specs.CommitRule.{OutlastsEnding};

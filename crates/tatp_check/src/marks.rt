@@ -12,7 +12,7 @@ pub struct Marks {
 impl Marks {
     ghost use Rattle.record_heap.specs.Pool.{IsRecord};
     ghost use Rattle.std.specs.Bool.{OnTrue};
-    ghost use Rattle.std.specs.Prelude.{◌≡◌, ◌+◌, ◌^◌, ◌<◌, ◌≤◌, ℕ, [], length, IfOk};
+    ghost use Rattle.std.specs.Prelude.{◌≡◌, ◌+◌, ◌^◌, ◌<◌, ℕ, [], length, IfOk};
     ghost use Rattle.tatp_check.specs.Marks.{AreMarked, FindsUnmarked, MarksMore, Meets};
 
     /// No record was met.

@@ -1,6 +1,6 @@
 //! Where the five tables and the index stand in a home of given sizes.
 
-ghost use Rattle.dude_base.specs.Home.{in_whole_lines, table_words};
+ghost use Rattle.dude_base.specs.Home.{in_whole_lines};
 ghost use Rattle.dude_base.specs.Sizes.{IsAccepted, IsFirstOut};
 ghost use Rattle.dude_base.specs.declared.limits.TheConstants.{PAGE};
 ghost use Rattle.hash_table.specs.Table.{FitsTable};

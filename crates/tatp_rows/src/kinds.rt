@@ -1,7 +1,7 @@
 //! The tables that have rows of several kinds for each subscriber: access rows and facilities.
 
 ghost use Rattle.hash_table.specs.Table.{FitsTable};
-ghost use Rattle.std.specs.Prelude.{◌≡◌, ℕ, ◌+◌, ◌*◌, ◌%◌, ◌<◌, ◌≤◌, ◌^◌, List, length};
+ghost use Rattle.std.specs.Prelude.{◌≡◌, ℕ, ◌+◌, ◌%◌, ◌<◌, ◌≤◌, ◌^◌, List, length};
 ghost use Rattle.tatp_layout.specs.Records.{access_form, facility_form};
 ghost use Rattle.tatp_model.specs.Population.{access_at, facility_at};
 ghost use Rattle.tatp_rows.specs.Entries.{of_kinds};

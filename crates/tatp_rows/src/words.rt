@@ -1,6 +1,6 @@
 //! The words of the records of rows.
 
-ghost use Rattle.std.specs.Prelude.{◌≡◌, ◌<◌, ◌≤◌, ◌^◌, length};
+ghost use Rattle.std.specs.Prelude.{◌≡◌};
 ghost use Rattle.tatp_layout.specs.Records.{access_form, call_form, facility_form, number_form, subscriber_form};
 ghost use Rattle.tatp_model.specs.Database.{IsAccessRow, IsCallRow, IsFacRow, IsSubRow};
 ghost use Rattle.tatp_rows.specs.Filling.{entry_of};

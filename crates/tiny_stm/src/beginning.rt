@@ -2,7 +2,6 @@
 
 use crate::stm::{Pass, Stm, Tx};
 use pmem_trait::Medium;
-use stm_slots::beside::Beside;
 use stm_transactions::begin::begin_in;
 use stm_transactions::box_full::BoxFull;
 

@@ -17,7 +17,6 @@ use dude_base::run::Run;
 use pmem_trait::Medium;
 use std::alloc::Global;
 use stm_slots::home::Home;
-use stm_slots::opening::Opening;
 use stm_slots::slot::Slot;
 use stm_transactions::rule::let_transact;
 use stm_turns::{first_home, new_events};

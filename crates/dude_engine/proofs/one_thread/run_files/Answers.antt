@@ -24,8 +24,8 @@ use Rattle.dude_engine.specs.Opening.{Opening}
 use Rattle.dude_engine.specs.Plain.{IsLastTold, IsOpeningOf, LosesFew, most_lost}
 use Rattle.dude_engine.specs.Keeping.{KeepsBy, KeepsRun}
 use Rattle.dude_engine.specs.Shipping.{KeepsUp, Ships}
-use Rattle.dude_engine.specs.RunCalls.{RunBy, run_at_start}
-use Rattle.dude_engine.specs.Running.{EndsNearLast, IsLeft, IsRunning, IsSettledRun, SettlesRun, end_by, went_well}
+use Rattle.dude_engine.specs.RunCalls.{RunBy}
+use Rattle.dude_engine.specs.Running.{EndsNearLast, IsLeft, IsRunning, IsSettledRun, end_by, went_well}
 use Rattle.dude_engine.proofs.RunEnds.{Ended, begins, cause_by, device_by, ended_by, few_lost_of, follow_of, from_of, near_by, on_whole, performs_in_rounds, recovers_of, replies_of, syncs_of, well_by, whole_of}
 use Rattle.dude_engine.proofs.Serving.{makes_its_calls, run_parts_are}
 use Rattle.dude_engine.proofs.Keeping.{keeps_start}

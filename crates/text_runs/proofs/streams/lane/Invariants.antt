@@ -1,4 +1,3 @@
-use Rattle.std.proofs.Common.{◌≡◌}
 use Rattle.dude_stream.specs.Lanes.{IsLane}
 use Rattle.text_runs.proofs.streams.lane.Given as goal
 

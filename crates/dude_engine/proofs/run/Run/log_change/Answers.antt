@@ -1,18 +1,16 @@
-use Rattle.std.proofs.Common.{◌≡◌, ◌+◌, ◌∙◌, ap, sym, refl, subst, rules, true, List, [], ◌∷◌, ◌++◌, length, Err, ℕ}
+use Rattle.std.proofs.Common.{◌≡◌, ◌+◌, ◌∙◌, ap, sym, refl, subst, rules, true, List, [], ◌∷◌, ◌++◌, length, Err}
 use Rattle.dude_base.specs.declared.write.Write.{Write}
 use Rattle.dude_base.specs.Records.{RedoRecord}
 use Rattle.dude_base.specs.Writes.{overwritten}
 use Rattle.dude_base.proofs.Overwriting.{length-overwritten}
 use Rattle.tatp_model.specs.declared.done.Done.{Done}
 use Rattle.tatp_model.specs.declared.reply.Reply.TheVariants.{Changed}
-use Rattle.tatp_core.specs.Serves.{Serves}
-use Rattle.tatp_layout.specs.StandsFor.{StandsFor}
-use Rattle.word_space.specs.Flats.{words_of, flat_below, flat_sight}
+use Rattle.word_space.specs.Flats.{words_of, flat_sight}
 use Rattle.log_numbered.specs.Arrays.{with_writes}
 use Rattle.log_numbered.specs.KeptBundles.{kept_bundles}
 use Rattle.log_numbered.specs.RunLog.{log_durable, log_medium}
 use Rattle.dude_engine.specs.declared.run_fault.RunFault.TheVariants.{Device}
-use Rattle.dude_engine.specs.Running.{HasFailed, IsRunning, tables_after}
+use Rattle.dude_engine.specs.Running.{HasFailed, IsRunning}
 use Rattle.dude_engine.specs.RunCalls.{AreBodyWrites, IsRecordOf}
 use Rattle.dude_engine.proofs.Arrays.{arrays_write}
 use Rattle.dude_engine.proofs.Keeping.{keeps_as, keeps_failed, kept_device}

@@ -4,11 +4,10 @@ use Rattle.dude_base.specs.declared.sizes.Sizes.{Sizes}
 use Rattle.pmem_trait.specs.Sights.{Sight}
 use Rattle.tatp_model.specs.declared.done.Done.{Done}
 use Rattle.tatp_model.specs.declared.reply.Reply.{Reply}
-use Rattle.tatp_model.specs.declared.reply.Reply.TheVariants.{Changed}
 use Rattle.tatp_core.specs.Serves.{Serves}
 use Rattle.tatp_layout.specs.StandsFor.{StandsFor}
 use Rattle.word_space.specs.declared.flat.Flat.{Flat}
-use Rattle.word_space.specs.Flats.{HasSameWords, words_of, flat_sight, flat_below, fresh}
+use Rattle.word_space.specs.Flats.{words_of, flat_sight, flat_below, fresh}
 use Rattle.log_numbered.specs.KeptBundles.{are_kept, kept_bundles}
 use Rattle.log_numbered.specs.RunLog.{log_last, log_medium, log_parts}
 use Rattle.dude_engine.specs.Running.{IsRunning, tables_after}

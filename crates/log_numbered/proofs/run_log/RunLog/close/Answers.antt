@@ -1,4 +1,4 @@
-use Rattle.std.proofs.Common.{◌≡◌, ℕ, ◌≤◌, [], None, Option, Some, false, is_ok, refl, sym, ◌∙◌, subst, rules}
+use Rattle.std.proofs.Common.{◌≡◌, ℕ, ◌≤◌, [], None, Option, Some, refl, sym, ◌∙◌, subst}
 use Rattle.dude_base.specs.declared.limits.TheConstants.{MAX_NUMBER}
 use Rattle.pmem_trait.specs.Sights.{CallsMade.none}
 use Rattle.log_numbered.specs.declared.open_bundle.OpenBundle.{OpenBundle}
@@ -12,7 +12,7 @@ use Rattle.log_numbered.specs.RunLog.{log_back, log_end, log_last, log_medium, l
 use Rattle.log_numbered.proofs.Appending.{goes_here}
 use Rattle.log_numbered.proofs.Closing.{closed_alive, closed_follows, leads_to, none_end, opened, recovers_closing}
 use Rattle.log_numbered.proofs.GoingOn.{recovers_here}
-use Rattle.log_numbered.proofs.Keeping.{bundles_kept, keeps_closed, keeps_same, keeps_still}
+use Rattle.log_numbered.proofs.Keeping.{bundles_kept, keeps_closed, keeps_same}
 use Rattle.log_numbered.proofs.run_log.RunLog.close.Goals as goal
 
 pub append-requires-clause-alive : goal.append-requires-clause-alive

@@ -1,4 +1,4 @@
-use Rattle.std.proofs.Common.{ℕ, ◌*◌, ◌-◌, take, drop, ap, ◌∙◌, arith, rules}
+use Rattle.std.proofs.Common.{ℕ, ◌*◌, ◌-◌, take, drop, ap, ◌∙◌, arith}
 use Rattle.dude_base.specs.Image.{cell_at}
 use Rattle.redo_record.specs.Calls.{lines_from}
 use Rattle.redo_record.proofs.RecordPairs.{hands_calls, lines_tag, pairs_body, pairs_tag}

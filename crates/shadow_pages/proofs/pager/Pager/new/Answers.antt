@@ -1,4 +1,4 @@
-use Rattle.std.proofs.Common.{◌≡◌, ◌<◌, Option, None, replicate, rules, arith}
+use Rattle.std.proofs.Common.{◌≡◌, None, replicate, rules}
 use Rattle.shadow_pages.proofs.Pagers.{one_to_one}
 use Rattle.shadow_pages.proofs.Seen.{fresh, fresh_seen}
 use Rattle.shadow_pages.proofs.pager.Pager.new.Goals as goal

@@ -1,5 +1,5 @@
-use Rattle.std.proofs.Common.{◌≡◌, ◌+◌, ◌∙◌, length, Some, None, slice_get, refl, subst, arith}
-use Rattle.shadow_pages.specs.PageMap.{IsOneToOne, Holds, frame_at}
+use Rattle.std.proofs.Common.{◌≡◌, ◌+◌, ◌∙◌, length, Some, None, refl, subst, arith}
+use Rattle.shadow_pages.specs.PageMap.{IsOneToOne}
 use Rattle.shadow_pages.proofs.Pagers.{one_to_one}
 use Rattle.shadow_pages.proofs.Seen.{index_below, entry_at, next_has, victim_seen, occupied, never}
 use Rattle.shadow_pages.proofs.pager.Pager.victim.Goals as goal
