@@ -1,7 +1,7 @@
 #!/usr/bin/env bash
 # Times an index of locations, in memory, on 10,000 subscribers: `locate` of 100 of them beside `recover`, which opens the
-# image in the same way; and 80,000 updates of a location in one file, and as many more in a second one, on an image with an
-# index and on one without. Prints times, and how often the one is the other. Outside the gate.
+# image in the same way; and 80,000 updates of random locations in one file, in two, and in four, on an image with an index and
+# on one without. Prints times, and how often the one is the other. Outside the gate.
 #
 #     bench/index.sh [--rounds N] [PROGRAM]
 #         PROGRAM a path, or crates/dude/out/dude; the median of five runs, or of N
@@ -18,9 +18,13 @@ export GLIBC_TUNABLES=glibc.malloc.hugetlb=1:glibc.malloc.mmap_max=0:glibc.mallo
 
 "$program" plain.img format "$subscribers" 120000 4 256 > /dev/null 2>&1
 "$program" indexed.img xformat "$subscribers" 120000 4 256 > /dev/null 2>&1
-for file in 1 2; do
+for file in 1 2 3 4; do
   awk -v file="$file" -v count="$count" -v subscribers="$subscribers" 'BEGIN {
-    for (i = 0; i < count; i++) printf "UPDATE_LOCATION,%015d,%.0f\n", 1 + (2 * (i * 7919 % (subscribers / 2)) + file - 1), i * 104729 % 4294967296
+    location = file
+    for (i = 0; i < count; i++) {
+      location = (location * 69069 + 1) % 4294967296
+      printf "UPDATE_LOCATION,%015d,%.0f\n", 4 * (i * 7919 % (subscribers / 4)) + file, location + (location == 0)
+    }
   }' > "$file.csv"
 done
 
@@ -42,13 +46,16 @@ for ((round = 0; round < rounds; round++)); do
     [ "$(wc -l < out)" -eq 101 ]
     time_command "$image.one" "$image.img" run 1.csv
     time_command "$image.two" "$image.img" run 1.csv 2.csv
+    time_command "$image.four" "$image.img" run 1.csv 2.csv 3.csv 4.csv
   done
 done
 for image in plain indexed; do
   opening=$(median "$image.recover")
-  echo "$image image: opened in $((opening / 1000)) ms, locate of 100 takes $(($(median "$image.locate") - opening)) microseconds more;" \
-    "$count updates $((($(median "$image.one") - opening) / 1000)) ms in one file, twice as many $((($(median "$image.two") - opening) / 1000)) ms in two"
+  echo "$image image: opened in $((opening / 1000)) ms, locate of 100 takes $(($(median "$image.locate") - opening)) microseconds more"
+  for files in one two four; do
+    echo "$image image, $count updates a file, $files: $((($(median "$image.$files") - opening) / 1000)) ms"
+  done
 done
-for files in one two; do
+for files in one two four; do
   echo "with an index $files: $(ratio $(($(median "indexed.$files") - $(median indexed.recover))) $(($(median "plain.$files") - $(median plain.recover)))) times as long"
 done
