@@ -1,11 +1,11 @@
 #!/usr/bin/env bash
-# Times an index of locations, in memory: `locate` of 100 of 10,000 subscribers beside `recover`, which opens the image in the
-# same way; and 80,000 updates of random locations in one file, in two, and in four, on an image of 1,000 subscribers and on one of
-# 10,000, with an index and without one. Prints times, and how often the one is the other. Outside the gate.
+# Times an index of locations, in memory, on 1,000 subscribers and on 10,000: `locate` of 100 of them beside `recover`, which opens
+# the image in the same way; and 80,000 updates of random locations in one file, in two, and in four, on an image with an index and
+# on one without. Prints times, and how often the one is the other. Outside the gate.
 #
 #     bench/index.sh [--rounds N] [PROGRAM [LOCKS]]
 #         PROGRAM a path, or crates/dude/out/dude; the median of five runs, or of N
-#         LOCKS how many locks keep the threads apart, or 1024
+#         LOCKS how many locks keep the threads apart, as `run` takes them, or 1024
 set -euo pipefail
 shopt -s inherit_errexit
 top=$(cd "$(dirname "$0")/.." && pwd)
@@ -50,8 +50,8 @@ beyond_opening() {
 }
 
 for subscribers in 1000 10000; do
+  rm -f plain.* indexed.*
   make_images "$subscribers"
-  rm -f plain.[!i]* indexed.[!i]*
   for ((round = 0; round < rounds; round++)); do
     for image in plain indexed; do
       time_command "$image.recover" "$image.img" recover
