@@ -1,3 +1,4 @@
 pub mod ReadLaws
 pub mod WriteLaws
 mod Pieces
+mod Spans

@@ -70,14 +70,15 @@ where
     /// Writes the noted lines and syncs the file. Nothing is synced where lines may be lost.
     fn write_and_sync(&mut self) -> io::Result<()>
         ensures lost { HasLostLines self.old → is_ok result ≡ false }
-        ensures cache { self.new.cache ≡ self.old.cache }
+        ensures words { self.new.cache.words ≡ self.old.cache.words }
+        ensures noted { noted_lines self.new ≡ noted_lines self.old }
         ensures spill { spill_of self.new ≡ spill_of self.old }
         ensures clock { self.new.clock ≡ self.old.clock }
     {
         if matches!(self.spill, Spill::Lost) {
             return Err(io::ErrorKind::Other.into());
         }
-        image_file::write_lines(&self.file, self.cache.noted())?;
+        self.cache.write(&self.file)?;
         self.file.sync_data()
     }
 
@@ -114,7 +115,7 @@ where
         if !self.cache.is_full() {
             return Ok(());
         }
-        if image_file::write_lines(&self.file, self.cache.noted()).is_err() {
+        if self.cache.write(&self.file).is_err() {
             self.clock.fault();
             return Err(Failed);
         }

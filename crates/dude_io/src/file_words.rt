@@ -4,7 +4,7 @@ ghost use Rattle.dude_io.specs.Bytes.{words_in};
 ghost use Rattle.std.specs.Int.{from_le_bytes};
 ghost use Rattle.std.specs.Prelude.{◌≡◌, ◌/◌, ◌++◌, ◌+◌, ◌^◌, ◌<◌, ◌≤◌, IsTrue, length, replicate, vec_len, vec_capacity};
 
-use crate::line::{Line, WORDS};
+use crate::line::{self, Line, WORDS};
 use std::alloc::{AllocError, Global};
 
 /// The words of a file. Those behind the last piece of the file that isn't 0 alone are not stored: they take no memory
@@ -21,7 +21,7 @@ pub struct FileWords {
 impl FileWords {
     ghost use Rattle.dude_io.specs.Bytes.{words_in};
     ghost use Rattle.dude_io.specs.FileWords.{words_of};
-    ghost use Rattle.dude_io.specs.Line.{IsLineOf};
+    ghost use Rattle.dude_io.specs.Line.{IsLineOf, lines_bytes};
     ghost use Rattle.std.specs.Prelude.{◌≡◌, ◌+◌, ◌*◌, ◌/◌, ◌^◌, ◌<◌, ◌≤◌, ◌++◌, [], IfOk, length, slice_index, slice_set, vec_len, vec_capacity};
 
     /// No words yet, and room for so many.
@@ -59,6 +59,7 @@ impl FileWords {
         requires { end ≤ self.old.count }
         ensures words { words_of self.new ≡ words_of self.old }
         ensures covered { end ≤ vec_len self.new.stored }
+        ensures grows { vec_len self.old.stored ≤ vec_len self.new.stored }
         ensures count { self.new.count ≡ self.old.count }
         ensures capacity { vec_capacity self.new.stored ≡ vec_capacity self.old.stored }
     {
@@ -81,6 +82,7 @@ impl FileWords {
     pub(crate) fn set(&mut self, at: u64, value: u64)
         requires { at < self.old.count }
         ensures words { words_of self.new ≡ slice_set (words_of self.old) at value }
+        ensures grows { vec_len self.old.stored ≤ vec_len self.new.stored }
         ensures count { self.new.count ≡ self.old.count }
     {
         self.cover(at + 1);
@@ -92,11 +94,23 @@ impl FileWords {
         requires { 8 * number + 8 ≤ self.old.count }
         ensures line { IsLineOf (words_of self.old) number result }
         ensures words { words_of self.new ≡ words_of self.old }
+        ensures stored { 8 * number + 8 ≤ vec_len self.new.stored }
+        ensures grows { vec_len self.old.stored ≤ vec_len self.new.stored }
         ensures count { self.new.count ≡ self.old.count }
     {
         let words = WORDS as u64;
         self.cover(words * number + words);
         Line::of(&self.stored, number)
+    }
+
+    /// Writes so many lines as bytes, from this one on. They are stored.
+    pub(crate) fn copy_lines(&self, first: u64, count: usize, into: &mut [u8])
+        requires stored { 8 * (first + count) ≤ vec_len self.now.stored }
+        requires size { length into.old ≡ 64 * count }
+        ensures { into.new ≡ lines_bytes first count (words_of self.now) }
+    {
+        let start = WORDS * first as usize;
+        line::store_words(&self.stored[start..start + WORDS * count], into);
     }
 }
 

@@ -1,7 +1,8 @@
 //! How an image file is opened, made, read and written (trusted).
 
-ghost use Rattle.dude_io.specs.Line.{line_bytes, IsRun};
-ghost use Rattle.std.specs.Prelude.{◌≡◌, ◌*◌, ◌<◌, ◌≤◌, length, IfOk, flat_map};
+ghost use Rattle.dude_io.specs.FileWords.{words_of, AreStored};
+ghost use Rattle.dude_io.specs.Line.{IsSpan, FillsSpan, lines_spanned};
+ghost use Rattle.std.specs.Prelude.{◌≡◌, ◌+◌, ◌*◌, ◌<◌, ◌≤◌, IsTrue, length, take};
 
 use crate::edge_fault::EdgeFault;
 use crate::file_words::FileWords;
@@ -20,11 +21,13 @@ const NEW_BYTES: usize = 33_554_432;
 
 const PIECE: usize = 65_536;
 
-/// The most lines that are written at once.
-const RUN: usize = 1024;
+/// The most lines that are written at once, and the bytes of so many.
+const SPAN: u64 = 1024;
 
-/// Up to so many lines are written by way of few bytes, and a single line by way of its own.
-const SHORT_RUN: usize = 32;
+pub(crate) const SPAN_BYTES: usize = SPAN as usize * BYTES;
+
+/// A line is written at once with one that lies no more lines before it. A call costs about as much as their bytes.
+const NEAR: u64 = 32;
 
 /// How many names are tried for a file that is being made.
 const NAMES: u64 = 100;
@@ -123,60 +126,86 @@ pub(crate) fn read_words<F: Read + OpenFile>(
     Ok(words)
 }
 
-/// Writes the lines in order, and doesn't sync them. Lines that lie one behind another in the file are written at once.
-pub(crate) fn write_lines<F: FileExt>(file: &F, lines: &[Line]) -> io::Result<()> {
+/// Writes the lines in order, and doesn't sync them. Lines near one another in the file are written at once, by way of these
+/// bytes, and with them those that lie between, as the words have them.
+pub(crate) fn write_lines<F: FileExt>(
+    file: &F,
+    lines: &[Line],
+    words: &FileWords,
+    through: &mut [u8],
+) -> io::Result<()>
+    requires stored { AreStored lines.now words.now }
+    requires room { length through.old ≡ 65536 }
+{
     let mut rest = lines;
     while !rest.is_empty() {
-        let written = write_run(file, rest)?;
-        rest = &rest[written..];
+        let count = span_length(rest);
+        write_span(file, &rest[..count], words, through)?;
+        rest = &rest[count..];
     }
     Ok(())
 }
 
-/// Writes the first lines, as far as they are one run, and answers how many.
-fn write_run<F: FileExt>(file: &F, lines: &[Line]) -> io::Result<usize>
-    requires { 0 < length lines.now }
-    ensures { IfOk result (λ n. IsRun n lines.now) }
+/// Writes what lies from the first of these lines to the last one.
+fn write_span<F: FileExt>(
+    file: &F,
+    lines: &[Line],
+    words: &FileWords,
+    through: &mut [u8],
+) -> io::Result<()>
+    requires span { IsSpan lines.now }
+    requires stored { AreStored lines.now words.now }
+    requires room { length through.old ≡ 65536 }
 {
-    let count = run_length(lines);
-    let run = &lines[..count];
-    match count {
-        1 => write_through(file, run, &mut [0; BYTES])?,
-        2..=SHORT_RUN => write_through(file, run, &mut [0; SHORT_RUN * BYTES])?,
-        _ => write_through(file, run, &mut [0; RUN * BYTES])?,
-    }
-    Ok(count)
+    let span = &mut through[..BYTES * lines_over(lines)];
+    fill_span(lines, words, span);
+    file.write_all_at(span, BYTES as u64 * lines[0].number)
 }
 
-/// Writes the bytes of these lines, which are one run, at the place of the first one, by way of these bytes.
-fn write_through<F: FileExt>(file: &F, lines: &[Line], through: &mut [u8]) -> io::Result<()>
-    requires some { 0 < length lines.now }
-    requires room { 64 * length lines.now ≤ length through.old }
-{
-    let run = &mut through[..BYTES * lines.len()];
-    store_lines(lines, run);
-    file.write_all_at(run, BYTES as u64 * lines[0].number)
-}
-
-/// How many of the first lines lie one behind another in the file, as far as they are written at once.
-fn run_length(lines: &[Line]) -> usize
+/// How many of the first lines are written at once.
+fn span_length(lines: &[Line]) -> usize
     requires { 0 < length lines.now }
-    ensures { IsRun result lines.now }
+    ensures within { result ≤ length lines.now }
+    ensures span { IsSpan (take result lines.now) }
 {
     let first = lines[0].number;
+    let mut last = first;
     let mut count = 1;
-    while count < RUN && count < lines.len() && lines[count].number == first + count as u64 {
+    while count < lines.len() && is_near(first, last, lines[count].number) {
+        last = lines[count].number;
         count += 1;
     }
     count
 }
 
-/// Stores the bytes of these lines, one line behind another.
-fn store_lines(lines: &[Line], into: &mut [u8])
-    requires { length into.old ≡ 64 * length lines.now }
-    ensures { into.new ≡ flat_map line_bytes lines.now }
+/// Whether a line is written at once with the first and the last one before it.
+fn is_near(first: u64, last: u64, line: u64) -> bool
+    requires { first ≤ last }
+    ensures { IsTrue result → (last < line) × (line < first + 1024) }
 {
-    for (k, line) in lines.iter().enumerate() {
-        line.store(&mut into[BYTES * k..BYTES * (k + 1)]);
+    last < line && line - last <= NEAR && line - first < SPAN
+}
+
+/// How many lines there are from the first of these to the last one.
+fn lines_over(lines: &[Line]) -> usize
+    requires { IsSpan lines.now }
+    ensures over { result ≡ lines_spanned lines.now }
+    ensures most { result ≤ 1024 }
+{
+    (lines[lines.len() - 1].number - lines[0].number) as usize + 1
+}
+
+/// Stores the bytes from the first of these lines to the last one.
+fn fill_span(lines: &[Line], words: &FileWords, into: &mut [u8])
+    requires span { IsSpan lines.now }
+    requires stored { AreStored lines.now words.now }
+    requires size { length into.old ≡ 64 * lines_spanned lines.now }
+    ensures { FillsSpan lines.now (words_of words.now) into.new }
+{
+    let first = lines[0].number;
+    words.copy_lines(first, into.len() / BYTES, into);
+    for line in lines {
+        let start = BYTES * (line.number - first) as usize;
+        line.store(&mut into[start..start + BYTES]);
     }
 }

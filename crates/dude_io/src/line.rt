@@ -1,6 +1,7 @@
 //! A line as it stood when it was flushed, and its bytes.
 
-ghost use Rattle.std.specs.Prelude.{◌^◌, ◌<◌};
+ghost use Rattle.std.specs.Int.{w64, to_le_bytes};
+ghost use Rattle.std.specs.Prelude.{◌≡◌, ◌*◌, ◌^◌, ◌<◌, length, flat_map};
 
 /// Words of a line.
 pub const WORDS: usize = 8;
@@ -18,7 +19,6 @@ pub struct Line {
 
 impl Line {
     ghost use Rattle.dude_io.specs.Line.{IsLineOf, line_bytes};
-    ghost use Rattle.std.specs.Int.{to_le_bytes};
     ghost use Rattle.std.specs.Prelude.{◌≡◌, ◌+◌, ◌*◌, ◌^◌, ◌<◌, ◌≤◌, length};
 
     /// The line of this number.
@@ -36,13 +36,21 @@ impl Line {
         }
     }
 
-    /// Writes the words as bytes, each with its lowest byte first.
+    /// Writes the words as bytes.
     pub(crate) fn store(&self, into: &mut [u8])
         requires { length into.old ≡ 64 }
         ensures { into.new ≡ line_bytes self.now }
     {
-        for (k, word) in self.words.iter().enumerate() {
-            into[8 * k..8 * k + 8].copy_from_slice(&word.to_le_bytes());
-        }
+        store_words(&self.words, into);
+    }
+}
+
+/// Writes the words as bytes, each with its lowest byte first.
+pub(crate) fn store_words(words: &[u64], into: &mut [u8])
+    requires { length into.old ≡ 8 * length words.now }
+    ensures { into.new ≡ flat_map (to_le_bytes w64) words.now }
+{
+    for (k, word) in words.iter().enumerate() {
+        into[8 * k..8 * k + 8].copy_from_slice(&word.to_le_bytes());
     }
 }

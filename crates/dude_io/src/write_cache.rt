@@ -1,22 +1,29 @@
 //! The words of an image file in memory, and the lines that were noted.
 
-ghost use Rattle.std.specs.Prelude.{◌≤◌, vec_len, vec_capacity};
+ghost use Rattle.dude_io.specs.FileWords.{AreStored};
+ghost use Rattle.std.specs.Prelude.{◌≡◌, ◌≤◌, vec_len, vec_capacity};
 
 use crate::file_words::FileWords;
+use crate::image_file::{self, SPAN_BYTES};
 use crate::line::Line;
 use std::alloc::{AllocError, Global};
+use std::io;
+use std::os::unix::fs::FileExt;
 
 /// Lines for which there is room among the notes.
 const NOTES: usize = 4096;
 
-/// The words of an image file in memory, and the lines that were noted and are not yet in the file, in order. It takes
-/// no memory after it is made.
+/// The words of an image file in memory, the lines that were noted and are not yet in the file, in order, and the bytes by
+/// way of which they are written. It takes no memory after it is made.
 #[derive(Drop)]
 pub struct WriteCache {
     pub words: FileWords,
     pub noted: Vec<Line>,
+    pub through: Vec<u8>,
     ghost within: { vec_len noted ≤ 4096 },
     ghost reserved: { 4096 ≤ vec_capacity noted },
+    ghost stored: { AreStored noted.items words },
+    ghost wide: { vec_len through ≡ 65536 },
 }
 
 impl WriteCache {
@@ -31,7 +38,12 @@ impl WriteCache {
         ensures room { IfOk result (λ cache. note_room cache ≡ 4096) }
     {
         let noted = Vec::with_capacity(alloc, NOTES)?;
-        Ok(WriteCache { words, noted })
+        let through = vec![in alloc; 0; SPAN_BYTES]?;
+        Ok(WriteCache {
+            words,
+            noted,
+            through,
+        })
     }
 
     pub(crate) fn len(&self) -> u64
@@ -76,10 +88,13 @@ impl WriteCache {
         self.noted.push_reserved(line);
     }
 
-    pub(crate) fn noted(&self) -> &[Line]
-        ensures { result.now ≡ self.now.noted.items }
+    /// Writes the noted lines, and doesn't sync them.
+    pub(crate) fn write<F: FileExt>(&mut self, file: &F) -> io::Result<()>
+        ensures words { self.new.words ≡ self.old.words }
+        ensures noted { self.new.noted ≡ self.old.noted }
     {
-        self.noted.as_slice()
+        let lines = self.noted.as_slice();
+        image_file::write_lines(file, lines, &self.words, self.through.as_mut_slice())
     }
 
     pub(crate) fn drop_notes(&mut self)
